@@ -1,0 +1,6 @@
+pub mod Doing
+pub mod Seeing
+pub mod Looping
+pub mod Filling
+pub mod Single
+pub mod Reading

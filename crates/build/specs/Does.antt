@@ -1,0 +1,108 @@
+-- What the functions of a build promise one another: each does to every build that counts and buffers show what the definition does to it. Only the
+-- code and its proofs look here. Assumes nothing.
+use Prim.Native.Nat.{ℕ, suc, _+_, _*_}
+use mathlib.Core.Path.{_≡_}
+use mathlib.Core.Bool.{false, cond}
+use mathlib.Core.List.{List, [], _∷_}
+use lib.Dec.{eqb}
+use lib.IntN.{ℤ, pos}
+use lib.ListN.{getD}
+use Rattle.ground.specs.Buffer.{cleared}
+use Rattle.logic.specs.Table.{Node}
+use Rattle.signed.specs.Signed as class
+use Rattle.signed.specs.Signed.{plus, leaf, signed, classed}
+use Rattle.signed.specs.Asking.{askOf, classOf, Small, Tame}
+use Rattle.signed.specs.declared.Ask.{Ask}
+use Rattle.signed.specs.declared.Class.{Class}
+use Rattle.encoding.specs.Build.{Build, Variable, variables#, Plan, norecord, by, rule1, rule2, phase1, expand, start, plan, built}
+use Rattle.encoding.specs.Limits.{maxStates, maxVariables, maxClauses, word}
+use Rattle.encoding.specs.Shows.{atStart, Room, Buffers, buffers, Shows, Next, Low, Parents, Made}
+use Rattle.encoding.specs.declared.counts.Counts.{Counts}
+use Rattle.encoding.proofs.Settling.{Settles, Settled}
+
+-- "all 0 up to the stated sizes"
+pub record Cleared (st ws : List ℕ) (cs : List ℤ) (st′ ws′ : List ℕ) (cs′ : List ℤ) : Type 0 where
+  pub states : st′ ≡ cleared 0 (3 * maxStates) st
+  pub words : ws′ ≡ cleared 0 maxVariables ws
+  pub clauses : cs′ ≡ cleared (pos 0) (3 * maxClauses) cs
+
+-- a part as the code holds it
+pub record Part (l : Ask) (p : class.Ask) : Type 0 where
+  pub small : Small (p .key)
+  pub is : l ≡ askOf p
+
+-- the class of a variable, if it belongs to state s
+unfoldable pub roleOf : List Node → ℕ → Variable → class.Class
+roleOf ns s x = cond (eqb (x .state) s) (classed ns (plus (x .key))) leaf
+
+-- r is the class of the variable whose word stands at place v, if it belongs to state s
+pub record Sees (ns : List Node) (s v : ℕ) (ws : List ℕ) (r : Class) : Type 0 where
+  pub tame : Tame r
+  pub is : (x : Variable) → Small (x .key) → word x ≡ getD ws v 0 → r ≡ classOf (roleOf ns s x)
+
+-- the counts and words after steps that make no state; and after steps whose new states have the parent s
+pub record Stays (c r : Counts) (ws ws′ : List ℕ) : Type 0 where
+  pub next : Next c r ws ws′
+  pub same : r .states ≡ c .states
+
+pub record Moves (s : ℕ) (c r : Counts) (st st′ ws ws′ : List ℕ) : Type 0 where
+  pub next : Next c r ws ws′
+  pub made : Made s c r st st′
+
+-- f is done to every build that is shown
+abbrev pub Does : Counts → Buffers → Buffers → Counts → (Build → Build) → Type 0
+Does c b b′ r f = (o : Buffers) (B : Build) → Shows o c b B → Shows o r b′ (f B)
+
+-- a variable a of state s: of the class f, with parts l and m, by rule 1
+pub record TwoParts (f : class.Ask → class.Ask → class.Class) (s a : ℕ) (l m : Ask) (c r : Counts) (ws ws′ : List ℕ) (cs cs′ : List ℤ) : Type 0 where
+  pub stays : Stays c r ws ws′
+  pub does : (φ : Plan) (v : ℕ) (p q : class.Ask) → Part l p → Part m q → a ≡ suc v → (st : List ℕ) → Does c (buffers st ws cs) (buffers st ws′ cs′) r (rule1 φ s v (f p q))
+
+-- existential by relation q, with part l, by rule 2
+pub record Opens (s a q : ℕ) (l : Ask) (c r : Counts) (b b′ : Buffers) : Type 0 where
+  pub moves : Moves s c r (b .states) (b′ .states) (b .words) (b′ .words)
+  pub does : (φ : Plan) (v : ℕ) (p : class.Ask) → Part l p → a ≡ suc v → Does c b b′ r (rule2 φ s v (class.existential q p))
+
+-- with part l, which f asks of successors
+pub record Pushes (f : Plan → ℕ → class.Ask → Build → Build) (a : ℕ) (l : Ask) (c r : Counts) (b b′ : Buffers) : Type 0 where
+  pub stays : Stays c r (b .words) (b′ .words)
+  pub does : (φ : Plan) (v : ℕ) (p : class.Ask) → Part l p → a ≡ suc v → Does c b b′ r (f φ v p)
+
+-- f of a book's plan: where words and clauses alone are touched, whatever the records are; where states are made of the parent s; where records are read
+pub record Asking (f : Plan → Build → Build) (ns : List Node) (c r : Counts) (ws ws′ : List ℕ) (cs cs′ : List ℤ) : Type 0 where
+  pub stays : Stays c r ws ws′
+  pub does : (root : ℕ) (st : List ℕ) → Does c (buffers st ws cs) (buffers st ws′ cs′) r (f (plan ns root))
+
+pub record Making (s : ℕ) (f : Plan → Build → Build) (ns : List Node) (c r : Counts) (b b′ : Buffers) : Type 0 where
+  pub moves : Moves s c r (b .states) (b′ .states) (b .words) (b′ .words)
+  pub does : (root : ℕ) → Does c b b′ r (f (plan ns root))
+
+pub record Pushing (f : Plan → Build → Build) (ns : List Node) (c r : Counts) (b b′ : Buffers) : Type 0 where
+  pub stays : Stays c r (b .words) (b′ .words)
+  pub does : (root : ℕ) → Does c b b′ r (f (plan ns root))
+
+-- phase 1 of state s: from B to where its loop comes to its end
+pub record Settling (s : ℕ) (ns : List Node) (c r : Counts) (ws ws′ : List ℕ) (cs cs′ : List ℤ) : Type 0 where
+  pub stays : Stays c r ws ws′
+  pub does : (root : ℕ) (o : Buffers) (st : List ℕ) (B R : Build) → Settles (by (plan ns root) (rule1 (plan ns root)) s) variables# B R
+      → Shows o c (buffers st ws cs) B → Shows o r (buffers st ws′ cs′) R
+
+-- the state at place j
+pub record Expands (j : ℕ) (ns : List Node) (c r : Counts) (b b′ : Buffers) : Type 0 where
+  pub next : Next c r (b .words) (b′ .words)
+  pub low : Low (b′ .states)
+  pub parents : Parents (r .states) (j + 2) (b′ .states)
+  pub does : (root : ℕ) (o : Buffers) (B : Build) → Settles (by (plan ns root) (rule1 (plan ns root)) (suc j)) variables# B (phase1 (plan ns root) (suc j) B)
+      → Shows o c b B → Shows o r b′ (expand (plan ns root) j B)
+
+-- the build before anything is asked, with state 1 asked for the root, and whole
+abbrev pub bare : Build
+bare = record { states = norecord ∷ []; variables = []; clauses = [] }
+
+pub record Begins (root : ℕ) (ns : List Node) (r : Counts) (ws ws′ : List ℕ) (cs cs′ : List ℤ) : Type 0 where
+  pub stays : Stays atStart r ws ws′
+  pub does : (o : Buffers) (st : List ℕ) → Shows o atStart (buffers st ws cs) bare → Shows o r (buffers st ws′ cs′) (start (signed ns root false))
+
+pub record Runs (root : ℕ) (ns : List Node) (r : Counts) (b b′ : Buffers) : Type 0 where
+  pub room : Room r
+  pub does : (o : Buffers) → Settled (plan ns root) → Shows o atStart b bare → Shows o r b′ (built ns root)

@@ -1,0 +1,161 @@
+// What is done to a variable of each class. `a` is the variable, l and m are its parts; the classes are the four of document 01.
+ghost use mathlib.Core.Path.{_≡_};
+ghost use mathlib.Core.Bool.{false};
+ghost use Prim.Native.Nat.{_+_, _*_, _≤_, _<_};
+ghost use lib.ListN.{length};
+ghost use Rattle.signed.specs.Signed as class;
+ghost use Rattle.encoding.specs.Build as def;
+ghost use Rattle.encoding.specs.Limits.{maxStates, maxVariables, maxClauses};
+ghost use Rattle.encoding.specs.Shows.{Room, Apart, Owned, Low, Parents, buffers};
+ghost use Rattle.build.specs.Filled.{Long};
+ghost use Rattle.build.specs.Does.{TwoParts, Opens, Pushes};
+use clauses::three;
+use clauses::two;
+use encoding::Counts;
+use encoding::ask;
+use encoding::make;
+use encoding::record_at;
+use encoding::write;
+use signed::Ask;
+
+// "Conjunctive a: ask both parts, first part first; write (−a, l1), (−a, l2)."
+pub fn conjunctive(
+    words: &mut [u32],
+    clauses: &mut [i16],
+    c: Counts,
+    from: usize,
+    s: usize,
+    a: usize,
+    l: Ask,
+    m: Ask,
+) -> Counts
+    requires { ⌜ Room c × (s ≤ c .states) × (a ≤ maxVariables) × (l .key < 2048) × (m .key < 2048) ⌝ }
+    requires { ⌜ (from ≤ c .variables) × Apart from s (now words) ⌝ }
+    requires { ⌜ (maxVariables ≤ length (now words)) × (3 * maxClauses ≤ length (now clauses)) ⌝ }
+    ensures { λ r. ⌜ TwoParts class.conjunctive s a l m c r (now (words .entry)) (now (words .exit)) (now (clauses .entry)) (now (clauses .exit)) ⌝ }
+{
+    let x = ask(words, c, from, s, l.key);
+    let y = ask(words, x.counts, from, s, m.key);
+    let d = write(clauses, y.counts, two(a, x.variable, l.minus));
+    write(clauses, d, two(a, y.variable, m.minus))
+}
+
+// "Disjunctive b: ask both; write (−b, l1, l2)."
+pub fn disjunctive(
+    words: &mut [u32],
+    clauses: &mut [i16],
+    c: Counts,
+    from: usize,
+    s: usize,
+    a: usize,
+    l: Ask,
+    m: Ask,
+) -> Counts
+    requires { ⌜ Room c × (s ≤ c .states) × (a ≤ maxVariables) × (l .key < 2048) × (m .key < 2048) ⌝ }
+    requires { ⌜ (from ≤ c .variables) × Apart from s (now words) ⌝ }
+    requires { ⌜ (maxVariables ≤ length (now words)) × (3 * maxClauses ≤ length (now clauses)) ⌝ }
+    ensures { λ r. ⌜ TwoParts class.disjunctive s a l m c r (now (words .entry)) (now (words .exit)) (now (clauses .entry)) (now (clauses .exit)) ⌝ }
+{
+    let x = ask(words, c, from, s, l.key);
+    let y = ask(words, x.counts, from, s, m.key);
+    write(
+        clauses,
+        y.counts,
+        three(a, x.variable, l.minus, y.variable, m.minus),
+    )
+}
+
+// "make the next state (parent, relation, p), ask it for the part, write (−p, l)." A new state has no variable, so that its asking looks nowhere.
+pub fn existential(
+    states: &mut [u16],
+    words: &mut [u32],
+    clauses: &mut [i16],
+    c: Counts,
+    s: usize,
+    a: usize,
+    r: usize,
+    l: Ask,
+) -> Counts
+    requires { ⌜ Room c × (s ≤ c .states) × (a ≤ maxVariables) × (r < 16) × (l .key < 2048) ⌝ }
+    requires { ⌜ Owned c (now words) ⌝ }
+    requires { ⌜ Long (now states) (now words) (now clauses) ⌝ }
+    ensures { λ out. ⌜ Opens s a r l c out
+        (buffers (now (states .entry)) (now (words .entry)) (now (clauses .entry)))
+        (buffers (now (states .exit)) (now (words .exit)) (now (clauses .exit))) ⌝ }
+{
+    let d = make(states, c, s, r, a);
+    if d.over {
+        return d;
+    }
+    let x = ask(words, d, d.variables, d.states, l.key);
+    write(clauses, x.counts, two(a, x.variable, l.minus))
+}
+
+// "its successors of that relation in number order, made by p: ask the successor for the part, write (−n, −p, l)." Only the states that this state's
+// existential variables have made can be its successors: `before` has the counts before they were made. One turn for each of them.
+pub fn universal(
+    states: &[u16],
+    words: &mut [u32],
+    clauses: &mut [i16],
+    c: Counts,
+    before: Counts,
+    s: usize,
+    a: usize,
+    r: usize,
+    l: Ask,
+) -> Counts
+    requires { ⌜ Room c × (a ≤ maxVariables) × (l .key < 2048) × (c .over ≡ false) ⌝ }
+    requires { ⌜ (before .states ≤ c .states) × (before .variables ≤ c .variables) × Owned before (now words) ⌝ }
+    requires { ⌜ Long (now states) (now words) (now clauses) ⌝ }
+    requires { ⌜ Low (now states) × Parents (before .states) s (now states) ⌝ }
+    ensures { λ out. ⌜ Pushes (λ φ v p. def.rule3 φ s v (class.universal r p)) a l c out
+        (buffers (now (states .entry)) (now (words .entry)) (now (clauses .entry)))
+        (buffers (now (states .entry)) (now (words .exit)) (now (clauses .exit))) ⌝ }
+{
+    let n = c.states;
+    let mut d = c;
+    let mut j = before.states;
+    while j < n {
+        d = push(states, words, clauses, d, before.variables, s, a, r, l, j);
+        j += 1;
+    }
+    d
+}
+
+// The state at place j, if it is a successor by that relation. None of its variables stands before place `from`.
+fn push(
+    states: &[u16],
+    words: &mut [u32],
+    clauses: &mut [i16],
+    c: Counts,
+    from: usize,
+    s: usize,
+    a: usize,
+    r: usize,
+    l: Ask,
+    j: usize,
+) -> Counts
+    requires { ⌜ Room c × (a ≤ maxVariables) × (l .key < 2048) × (j < c .states) ⌝ }
+    requires { ⌜ Apart from (j + 1) (now words) ⌝ }
+    requires { ⌜ Long (now states) (now words) (now clauses) ⌝ }
+    requires { ⌜ Low (now states) ⌝ }
+    ensures { λ out. ⌜ Pushes (λ φ v p. def.push φ s v r p j) a l c out
+        (buffers (now (states .entry)) (now (words .entry)) (now (clauses .entry)))
+        (buffers (now (states .entry)) (now (words .exit)) (now (clauses .exit))) ⌝ }
+{
+    if c.over {
+        return c;
+    }
+    let d = record_at(states, j);
+    if d.parent == s {
+        if d.relation == r {
+            let x = ask(words, c, from, j + 1, l.key);
+            return write(
+                clauses,
+                x.counts,
+                three(a, d.maker, true, x.variable, l.minus),
+            );
+        }
+    }
+    c
+}

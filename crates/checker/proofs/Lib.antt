@@ -1,0 +1,4 @@
+pub mod Promising
+pub mod Filling
+pub mod Deciding
+pub mod Single

@@ -1,0 +1,14 @@
+pub mod Variables
+pub mod Facts
+pub mod Grow
+pub mod Rules
+pub mod Loops
+pub mod Phases
+pub mod Formulas
+pub mod Totals
+pub mod Rows
+pub mod Words
+pub mod Steps
+pub mod Settling
+pub mod Skipping
+pub mod Bounds

@@ -1,0 +1,4 @@
+pub mod Search
+pub mod Answered
+pub mod Models
+pub mod Steps

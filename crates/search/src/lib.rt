@@ -1,0 +1,58 @@
+// Document 01, "The search", over lent buffers: the clauses, a value for each variable, and a trail to go back by. It is one loop over the nodes,
+// so its stack does not grow with the depth of the tree.
+mod branch;
+mod clause;
+mod propagate;
+mod trail;
+
+ghost use mathlib.Core.Path.{_≡_};
+ghost use mathlib.Core.List.{map};
+ghost use Prim.Native.Nat.{_%_, _≤_};
+ghost use lib.ListN.{length};
+ghost use Rattle.search.specs.Answered.{Ready, Answered};
+use branch::walk;
+use ground::clear_u8;
+use ground::clear_u16;
+
+// The answer, with its count: the nodes entered up to the verdict, or the budget.
+pub enum Outcome {
+    Yes(u32),
+    No(u32),
+    Stopped(u32),
+}
+
+// Searches `many` clauses within `budget` nodes. What the values hold at entry does not matter; the trail is working space, zero afterwards. Besides the
+// nodes it costs two passes over the values and one over the trail.
+pub fn search(
+    clauses: &[i16],
+    many: usize,
+    values: &mut [u8],
+    trail: &mut [u16],
+    budget: u32,
+) -> Outcome
+    requires { ⌜ Ready (now clauses) many (length (now values)) × (length (now values) ≤ length (now trail)) ⌝ }
+    ensures { λ r. ⌜ Answered (now (clauses .entry)) (now (values .entry)) (now (trail .entry)) budget (now (values .exit)) (now (trail .exit)) r ⌝ }
+{
+    let variables = values.len();
+    let places = trail.len();
+    clear_u8(values, variables);
+    let outcome = walk(clauses, many, values, trail, budget);
+    clear_u16(trail, places);
+    match outcome {
+        Outcome::Yes(_) => finish(values),
+        Outcome::No(_) => clear_u8(values, variables),
+        Outcome::Stopped(_) => clear_u8(values, variables),
+    }
+    outcome
+}
+
+// The values of a yes: 1 for true, 0 for false and for unassigned. One pass over the variables.
+fn finish(values: &mut [u8])
+    ensures { λ _. ⌜ now (values .exit) ≡ map (λ x. x % 2) (now (values .entry)) ⌝ }
+{
+    let mut i: usize = 0;
+    while i < values.len() {
+        values[i] = values[i] % 2;
+        i += 1;
+    }
+}

@@ -1,0 +1,12 @@
+pub mod Living
+pub mod Marking
+pub mod Written
+pub mod Scatter
+pub mod Recorded
+pub mod Atoms
+pub mod Showing
+pub mod Preparing
+pub mod Sizes
+pub mod Answering
+pub mod Truth
+pub mod Single
