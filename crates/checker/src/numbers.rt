@@ -36,6 +36,17 @@ pub fn place(a: Answer) -> usize
     }
 }
 
+// "A refusal has totals and count 0."
+fn none() -> Build
+    ensures { λ r. ⌜ r ≡ record { states = 0; variables = 0; clauses = 0 } ⌝ }
+{
+    Build {
+        states: 0,
+        variables: 0,
+        clauses: 0,
+    }
+}
+
 pub fn totals(a: Answer) -> Build
     ensures { λ r. ⌜ (r .states ≡ told a .states) × (r .variables ≡ told a .variables) × (r .clauses ≡ told a .clauses) ⌝ }
 {
@@ -43,36 +54,12 @@ pub fn totals(a: Answer) -> Build
         Answer::Yes(b, _) => b,
         Answer::No(b, _) => b,
         Answer::Stopped(b, _) => b,
-        Answer::Lent => Build {
-            states: 0,
-            variables: 0,
-            clauses: 0,
-        },
-        Answer::Short => Build {
-            states: 0,
-            variables: 0,
-            clauses: 0,
-        },
-        Answer::Ranges => Build {
-            states: 0,
-            variables: 0,
-            clauses: 0,
-        },
-        Answer::Extent => Build {
-            states: 0,
-            variables: 0,
-            clauses: 0,
-        },
-        Answer::Node(_) => Build {
-            states: 0,
-            variables: 0,
-            clauses: 0,
-        },
-        Answer::Oversized => Build {
-            states: 0,
-            variables: 0,
-            clauses: 0,
-        },
+        Answer::Lent => none(),
+        Answer::Short => none(),
+        Answer::Ranges => none(),
+        Answer::Extent => none(),
+        Answer::Node(_) => none(),
+        Answer::Oversized => none(),
     }
 }
 
