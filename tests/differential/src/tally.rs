@@ -56,7 +56,7 @@ impl Tally {
             let none = open.filter(|number| counts[**number as usize] == 0);
             missing.extend(none.map(|number| format!("{name} never gave {number}")));
         }
-        let traps = self.seen.rows().into_iter().filter(|(_, books)| *books == 0);
+        let traps = self.seen.rows().filter(|(_, books)| *books == 0);
         missing.extend(traps.map(|(name, _)| format!("no book with {name}")));
         missing
     }

@@ -1,0 +1,67 @@
+//! Times of two things that are run in turn, so that both meet the same noise.
+
+use crate::clock::cpu_seconds;
+
+/// Seconds that a sample takes at least, and that all samples of a pair take about.
+const SAMPLE: f64 = 0.001;
+const TOTAL: f64 = 0.3;
+/// Samples at least and at most.
+const SAMPLES: (usize, usize) = (5, 41);
+/// Where one lap takes longer than this, the least number of samples is smaller.
+const LONG: f64 = 0.5;
+const FEW: usize = 3;
+
+/// Seconds of the processor for one lap: the least and the median of the samples.
+#[derive(Clone, Copy, Debug, PartialEq)]
+pub struct Times {
+    pub least: f64,
+    pub median: f64,
+}
+
+impl Times {
+    fn of(mut samples: Vec<f64>) -> Times {
+        samples.sort_by(f64::total_cmp);
+        Times { least: samples[0], median: samples[samples.len() / 2] }
+    }
+
+    /// What is left of it without another part.
+    pub fn without(self, part: Times) -> Times {
+        Times { least: self.least - part.least, median: self.median - part.median }
+    }
+}
+
+fn seconds(laps: usize, run: &mut dyn FnMut()) -> f64 {
+    let start = cpu_seconds();
+    (0..laps).for_each(|_| run());
+    cpu_seconds() - start
+}
+
+/// Times both in turn, after a lap of each to warm up.
+pub fn in_turn<'a>(ours: &'a mut dyn FnMut(), second: &'a mut dyn FnMut()) -> [Times; 2] {
+    let mut both = [ours, second];
+    let once = both.each_mut().map(|run| seconds(1, *run).min(seconds(1, *run)).max(1e-8));
+    let laps = once.map(|once| (SAMPLE / once).ceil() as usize);
+    let turn = laps[0] as f64 * once[0] + laps[1] as f64 * once[1];
+    let least = if turn > LONG { FEW } else { SAMPLES.0 };
+    let number = ((TOTAL / turn) as usize).clamp(least, SAMPLES.1);
+    let mut samples = [Vec::new(), Vec::new()];
+    for _ in 0..number {
+        for which in 0..2 {
+            samples[which].push(seconds(laps[which], both[which]) / laps[which] as f64);
+        }
+    }
+    samples.map(Times::of)
+}
+
+#[cfg(test)]
+mod tests {
+    use super::*;
+
+    #[test]
+    fn least_and_median() {
+        let times = Times::of(vec![3.0, 1.0, 2.0, 9.0, 8.0]);
+        assert_eq!(times, Times { least: 1.0, median: 3.0 });
+        let part = Times { least: 0.5, median: 1.0 };
+        assert_eq!(times.without(part), Times { least: 0.5, median: 2.0 });
+    }
+}
