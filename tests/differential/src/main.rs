@@ -22,6 +22,9 @@ differential --unit STREAM NUMBER      compare the books of one unit again, as a
 const BOOKS: u64 = 200_000;
 const QUICK: u64 = 10_000;
 
+/// Failures that are told in full.
+const REPORTED: usize = 10;
+
 /// Where failing books are written.
 const FAILED: &str = concat!(env!("CARGO_MANIFEST_DIR"), "/target/failed");
 
@@ -114,7 +117,7 @@ fn unit(stream: &str, number: &str) -> ExitCode {
 
 /// The last line, and the exit status.
 fn verdict(tally: &Tally, failures: &[Failure]) -> ExitCode {
-    failures.iter().for_each(report);
+    failures.iter().take(REPORTED).for_each(report);
     if failures.is_empty() {
         println!("differential: {} books agree", tally.books);
         return ExitCode::SUCCESS;

@@ -69,7 +69,7 @@ pub fn run(stream: Stream, books: u64, threads: usize) -> (Tally, Vec<Failure>) 
 /// Compares the books of one unit.
 pub fn run_unit(compare: &mut Compare, stream: Stream, unit: u64) -> Vec<Failure> {
     let mut rng = stream.rng(unit);
-    let books = stream.unit(&mut rng);
+    let books = stream.unit(unit, &mut rng);
     let mut failures = Vec::new();
     for (place, book) in books.into_iter().enumerate() {
         if let Err(fault) = compare.book(&book.bytes, &mut rng) {
@@ -93,7 +93,7 @@ mod tests {
         let failed = || {
             let mut compare = Compare::default();
             compare.tamper = Some(Tamper::Cell(Buffer::Words, 0, 3));
-            run_unit(&mut compare, Stream::WellFormed, 7).pop().expect("a failure")
+            run_unit(&mut compare, Stream::WellFormed, 77).pop().expect("a failure")
         };
         let (one, other) = (failed(), failed());
         assert_eq!(one.fault, other.fault);

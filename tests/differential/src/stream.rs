@@ -1,9 +1,9 @@
 //! The books by number: the same number gives the same bytes everywhere.
 
 use second::generate::{
-    binary_states, book, chain_states, extend, fan_clauses, fan_states, fan_variables, flip_bits,
-    header_damage, note, offset_books, random_at, record_damage, size_books, truncate, Draft,
-    Limit, Rng, Shape,
+    at_limits, binary_states, book, chain_states, extend, fan_clauses, fan_states, fan_variables,
+    flip_bits, header_damage, note, offset_books, random_at, record_damage, size_books, truncate,
+    Draft, Limit, Rng, Shape,
 };
 
 /// Bytes with a word on how they came about.
@@ -55,9 +55,11 @@ impl Stream {
         }
     }
 
-    /// The books of a unit: one that keeps the rules, or the damaged ones of one book.
-    pub fn unit(self, rng: &mut Rng) -> Vec<Labelled> {
+    /// The books of a unit: one that keeps the rules, or the damaged ones of one book. The first
+    /// units are the fixed books at the limits.
+    pub fn unit(self, unit: u64, rng: &mut Rng) -> Vec<Labelled> {
         match self {
+            Stream::WellFormed if unit < LIMITS => vec![at_limit(unit as usize, rng)],
             Stream::WellFormed => vec![well_formed(rng)],
             Stream::Damaged => damaged(rng),
         }
@@ -100,6 +102,14 @@ fn well_formed(rng: &mut Rng) -> Labelled {
         }
     };
     Labelled::new(label, draft.bytes(&note(rng)))
+}
+
+/// How many fixed books stand one below, at and one above each limit.
+const LIMITS: u64 = 39;
+
+fn at_limit(number: usize, rng: &mut Rng) -> Labelled {
+    let one = at_limits(rng, 0).swap_remove(number);
+    Labelled::new(format!("{} {:?} {}", one.family, one.limit, one.value), one.draft.bytes(&[]))
 }
 
 /// A random book whose build has a limit's number, one less or one more.
@@ -181,16 +191,21 @@ mod tests {
     #[test]
     fn well_formed_books_keep_the_rules() {
         for unit in 0..2_000 {
-            for book in Stream::WellFormed.unit(&mut Stream::WellFormed.rng(unit)) {
+            for book in Stream::WellFormed.unit(unit, &mut Stream::WellFormed.rng(unit)) {
                 assert!(parse(&book.bytes).is_ok(), "{unit} {}", book.label);
             }
         }
     }
 
     #[test]
+    fn the_first_units_are_all_the_fixed_books_at_the_limits() {
+        assert_eq!(at_limits(&mut Rng::new(0), 0).len() as u64, LIMITS);
+    }
+
+    #[test]
     fn a_unit_has_its_least_and_repeats() {
         for unit in 0..100 {
-            let books = || Stream::Damaged.unit(&mut Stream::Damaged.rng(unit));
+            let books = || Stream::Damaged.unit(unit, &mut Stream::Damaged.rng(unit));
             assert!(books().len() as u64 >= Stream::Damaged.least(), "{}", books().len());
             assert!(books().iter().zip(books()).all(|(one, other)| one.bytes == other.bytes));
         }
