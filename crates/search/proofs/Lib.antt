@@ -14,3 +14,4 @@ mod Judged
 mod Triples
 mod Pending
 mod Whole
+mod Table

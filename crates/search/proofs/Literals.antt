@@ -2,20 +2,19 @@
 -- Assumes nothing.
 use mathlib.Core.Path.{_≡_, refl, sym, ap, _∙_}
 use mathlib.Core.Bool.{Bool, true, false}
-use mathlib.Core.List.{List}
 use Prim.Native.Nat.{ℕ, zero, suc, _-_, _^_, _≤_, _<_}
 use native.Mathlib.Omega.{arith}
 use borrow.Author.Tests.{le-ltb, ltb-true, ltb-false, eqb-true, eqb-false}
 use lib.Dec.{T, eqb}
-use lib.ListN.{getD}
-use lib.IntN.{ℤ, pos, negsuc, natAbs, _-ℤ_}
+use lib.IntN.{ℤ, pos, negsuc, natAbs, _+ℤ_, _-ℤ_}
 use lib.Signed.{ltZ, nonNeg}
 use mir.Syntax.{w16, w64}
 use mir.Val.{Fits, SFits, toZ, ofZ}
 use mir.Facts.{toZ-ofZ}
 use Rattle.clauses.proofs.Signs.{read}
 use Rattle.ground.proofs.Tests.{true-false}
-use Rattle.search.specs.Search.{turned, value, place, mark, sameLiteral}
+use Rattle.search.specs.Search.{place, mark, sameLiteral}
+use Rattle.search.specs.Steps.{slotOf}
 use Rattle.search.proofs.Clauses.{is-same, same-is}
 
 -- ---- zero
@@ -65,22 +64,11 @@ unfolding mark
 mark-up (pos n) e = refl
 mark-up (negsuc n) e = true-false e
 
-pub value-down : (a : List ℕ) (y : ℤ) → ltZ y (pos 0) ≡ true → turned (getD a (place y) 0) ≡ value a y
-unfolding place value
-value-down a (pos n) e = absurd (omega (arith, ltb-true n 0 e))
-value-down a (negsuc n) e = refl
-
-pub value-up : (a : List ℕ) (y : ℤ) → (y ≡ pos 0 → ⊥) → ltZ y (pos 0) ≡ false → getD a (place y) 0 ≡ value a y
-unfolding place value
-value-up a (pos zero) f e = absurd (f refl)
-value-up a (pos (suc n)) f e = refl
-value-up a (negsuc n) f e = true-false e
-
-pub inside : (l : ℤ) (n : ℕ) → (l ≡ pos 0 → ⊥) → natAbs l ≤ n → place l < n
-unfolding place
-inside (pos zero) n f h = absurd (f refl)
-inside (pos (suc k)) n f h = h
-inside (negsuc k) n f h = h
+-- ---- the slot of a literal
+pub slot-is : (y : ℤ) → natAbs y < 4096 → y +ℤ pos 4096 ≡ pos (slotOf y)
+unfolding slotOf
+slot-is (pos n) h = ap pos (omega arith)
+slot-is (negsuc n) h = rw (le-ltb 4096 (suc n) (omega arith)) (ap pos (omega arith))
 
 -- ---- two literals are the same where their bits are
 same-no : (y z : ℤ) → (y ≡ z → ⊥) → sameLiteral y z ≡ false

@@ -65,6 +65,35 @@ lowest-is [] h = absurd (not-suc-le-zero h)
 lowest-is (zero ∷ a) h = (omega arith, refl)
 lowest-is (suc x ∷ a) h = (omega (arith, lowest-is a h .0), lowest-is a h .1)
 
+pub lowest-le : (a : List ℕ) → lowest a ≤ length a
+unfolding lowest
+lowest-le [] = omega arith
+lowest-le (zero ∷ a) = omega arith
+lowest-le (suc x ∷ a) = omega (arith, lowest-le a)
+
+-- it is no lower when any is assigned, it is higher when it is assigned itself, and it is no lower than what is undone
+pub lowest-made : (a : List ℕ) (i v : ℕ) → lowest a ≤ lowest (set a i (suc v))
+unfolding lowest
+lowest-made [] i v = omega arith
+lowest-made (zero ∷ a) i v = omega arith
+lowest-made (suc x ∷ a) zero v = omega arith
+lowest-made (suc x ∷ a) (suc i) v = omega (arith, lowest-made a i v)
+
+pub lowest-past : (a : List ℕ) (v : ℕ) → 0 < zeros a → lowest a < lowest (set a (lowest a) (suc v))
+unfolding zeros lowest
+lowest-past [] v h = absurd (not-suc-le-zero h)
+lowest-past (zero ∷ a) v h = omega arith
+lowest-past (suc x ∷ a) v h = omega (arith, lowest-past a v h)
+
+pub lowest-undone : (a : List ℕ) (i k : ℕ) → k ≤ lowest a → k ≤ i → k ≤ lowest (set a i 0)
+unfolding lowest
+lowest-undone [] i k h g = h
+lowest-undone (zero ∷ a) zero k h g = h
+lowest-undone (zero ∷ a) (suc i) k h g = h
+lowest-undone (suc x ∷ a) zero k h g = g
+lowest-undone (suc x ∷ a) (suc i) zero h g = omega arith
+lowest-undone (suc x ∷ a) (suc i) (suc k) h g = omega (arith, lowest-undone a i k (omega arith) (omega arith))
+
 -- assigned and undone again
 pub set-back : (a : List ℕ) (i v : ℕ) → getD a i 0 ≡ 0 → set (set a i v) i 0 ≡ a
 set-back a i v e = set-set a i v 0 ∙ ap (set a i) (sym e) ∙ set-getD a i 0
@@ -112,6 +141,11 @@ fewer a l e h = by (mark l) refl
     by : (m : ℕ) → mark l ≡ m → suc (zeros (set a (place l) m)) ≡ zeros a
     by zero q = absurd (marks l q)
     by (suc m) q = zeros-set a (place l) m (place-in a l e h) (zero-place a l e)
+
+pub lowest-true : (a : List ℕ) (l : ℤ) → lowest a ≤ lowest (makeTrue a l)
+unfolding mark
+lowest-true a (pos n) = lowest-made a (place (pos n)) 0
+lowest-true a (negsuc n) = lowest-made a (place (negsuc n)) 1
 
 -- ---- b assigns what a assigns, and perhaps more
 abbrev pub Below : List ℕ → List ℕ → Type 0

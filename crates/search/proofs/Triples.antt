@@ -17,7 +17,7 @@ use Rattle.clauses.proofs.Signs.{read, small, again}
 use Rattle.search.specs.Search.{met, allMet, says, scan, firstOf}
 use Rattle.search.specs.Answered.{Ready}
 use Rattle.search.specs.Models.{ClausesIn}
-use Rattle.search.specs.Steps.{clauseAt}
+use Rattle.search.specs.Steps.{Shown, clauseAt}
 
 pub triples-in : (v : ℕ) (cl : List ℤ) → ((k : ℕ) → natAbs (getD cl k (pos 0)) ≤ v) → ClausesIn v (triples cl)
 unfolding triples
@@ -59,7 +59,7 @@ literal-at cl i (suc (suc zero)) h = refl
 literal-at cl i (suc (suc (suc k))) h = absurd (omega arith)
 
 -- one clause of those that are ready is ready
-pub ready-at : {cl : List ℤ} {m v : ℕ} (i : ℕ) → Ready cl m v → Ready (clauseAt cl i) 1 v
+ready-at : {cl : List ℤ} {m v : ℕ} (i : ℕ) → Ready cl m v → Ready (clauseAt cl i) 1 v
 ready-at {cl} {m} {v} i R = record { long = refl; range = within; small = R .small }
   where
     within : (k : ℕ) → natAbs (getD (clauseAt cl i) k (pos 0)) ≤ v
@@ -67,6 +67,9 @@ ready-at {cl} {m} {v} i R = record { long = refl; range = within; small = R .sma
     within (suc zero) = R .range (3 * i + 1)
     within (suc (suc zero)) = R .range (3 * i + 2)
     within (suc (suc (suc k))) = omega arith
+
+pub shown-at : {cl : List ℤ} {m : ℕ} {a w : List ℕ} (i : ℕ) → Shown cl m a w → Shown (clauseAt cl i) 1 a w
+shown-at i S = record { ready = ready-at i (S .ready); mirrors = S .mirrors }
 
 module _ (cl : List ℤ) (a : List ℕ) (m : ℕ) (R : Ready cl m (length a)) where
   at-small : (k : ℕ) → natAbs (at cl k) < 32768

@@ -1,6 +1,6 @@
 -- The whole of what is left to do, a node at a time: the node at hand fails, ends in yes, or branches, and the rest is the whole again. Assumes nothing.
 use mathlib.Core.Path.{_≡_, refl, sym, ap, _∙_}
-use mathlib.Core.Bool.{true, false}
+use mathlib.Core.Bool.{Bool, true, false}
 use mathlib.Core.List.{List, [], _∷_}
 use Prim.Native.Nat.{ℕ, suc, _+_, _<_}
 use native.Mathlib.Nat.{add-assoc}
@@ -13,7 +13,7 @@ use Rattle.search.specs.Models.{ClausesIn}
 use Rattle.search.specs.Steps.{firstBranch, pending, settledBy, Settling, Branched, Backed, nodeOf, onFail, finished, whole, Stepped}
 use Rattle.search.specs.declared.branch.Step.the-variants.{Yes as StepYes, No as StepNo, Next}
 use Rattle.search.specs.declared.trail.Turn.the-variants.{Nowhere, To}
-use Rattle.search.proofs.Marks.{zeros-none, zeros-set, zeros-pos}
+use Rattle.search.proofs.Marks.{zeros-none, zeros-set, zeros-pos, lowest-past}
 use Rattle.search.proofs.Pending.{pending-branch}
 use Rattle.search.proofs.Nodes.{branch-is, enough, node-clash, node-met, node-branch, nodes-plus, some-nodes}
 
@@ -91,39 +91,44 @@ unfolding nodeOf run
 run-is cs v a e = ap (nodeOf cs) e ∙ ap (λ (k : ℕ). node (suc k) cs (replicate v 0)) (zeros-none v)
 
 -- ---- what the parts of a node promise makes what the node promises
-module _ {cl : List ℤ} {n : ℕ} {a t b u : List ℕ} {top : ℕ} where
-  pub calmly : Settling cl n a t b u true top → settle (triples cl) a ≡ calm b
+module _ {cl : List ℤ} {n : ℕ} {a t b u : List ℕ} {m : Bool} {top : ℕ} where
+  calmly : Settling cl n a t b u true m top → settle (triples cl) a ≡ calm b
   unfolding settledBy
   calmly S = sym (S .is)
 
-  clashed : Settling cl n a t b u false top → settle (triples cl) a ≡ clash
+  clashed : Settling cl n a t b u false m top → settle (triples cl) a ≡ clash
   unfolding settledBy
   clashed S = sym (S .is)
 
-  pub stepped-yes : Settling cl n a t b u true top → allMet b (triples cl) ≡ true → Stepped cl n a t b u StepYes
-  stepped-yes S m = whole-yes (triples cl) a (pending a t n) b (calmly S) m
+  met-is : (x : Bool) → Settling cl n a t b u true m top → m ≡ x → allMet b (triples cl) ≡ x
+  met-is x S e = sym (S .whole refl) ∙ e
+
+  pub stepped-yes : Settling cl n a t b u true m top → m ≡ true → Stepped cl n a t b u StepYes
+  stepped-yes S e = whole-yes (triples cl) a (pending a t n) b (calmly S) (met-is true S e)
 
   -- some variable is unassigned, and so there is room on the trail
-  pub branch-open : ClausesIn (length a) (triples cl) → Settling cl n a t b u true top → allMet b (triples cl) ≡ false → 0 < zeros b
-  branch-open h S m = let B = branch-is (triples cl) a b h (calmly S) m in zeros-pos b (lowest b) (B .low) (B .open-low)
+  pub branch-open : ClausesIn (length a) (triples cl) → Settling cl n a t b u true m top → m ≡ false → 0 < zeros b
+  branch-open h S e = let B = branch-is (triples cl) a b h (calmly S) (met-is false S e) in zeros-pos b (lowest b) (B .low) (B .open-low)
 
-  pub stepped-branch : ClausesIn (length a) (triples cl) → Settling cl n a t b u true top → allMet b (triples cl) ≡ false → top < length u
-      → {b′ u′ : List ℕ} → Branched top b u b′ u′ → Stepped cl n a t b′ u′ (Next (top + 1))
-  stepped-branch h S m l {b′} {u′} R =
-      let B = branch-is (triples cl) a b h (calmly S) m in
+  pub stepped-branch : ClausesIn (length a) (triples cl) → Settling cl n a t b u true m top → m ≡ false → top < length u
+      → {b′ u′ : List ℕ} → Branched top b u b′ u′ → Stepped cl n a t b′ u′ (Next (top + 1) (lowest b + 1))
+  stepped-branch h S e l {b′} {u′} R =
+      let unmet = met-is false S e in
+      let B = branch-is (triples cl) a b h (calmly S) unmet in
       let i = lowest b in
       let rest : pending (set b i 1) (set u top (i + firstBranch)) (top + 1) ≡ set b i 2 ∷ pending a t n =
       pending-branch b u i top l 1 (B .open-low) ∙ ap (λ (P : List (List ℕ)). set b i 2 ∷ P) (S .back) in (
-        whole-branch (triples cl) a (pending a t n) b h (calmly S) m
+        whole-branch (triples cl) a (pending a t n) b h (calmly S) unmet
             ∙ ap (λ (P : List (List ℕ)). plus 1 (finished (triples cl) (nodeOf (triples cl) (set b i 1)) P)) (sym rest)
             ∙ ap (λ (x : List ℕ). plus 1 (whole cl x (set u top (i + firstBranch)) (top + 1))) (sym (R .marks))
             ∙ ap (λ (x : List ℕ). plus 1 (whole cl b′ x (top + 1))) (sym (R .notes)),
         omega (arith, S .used, ap zeros (R .marks), zeros-set b i 0 (B .low) (B .open-low)),
+        omega (arith, ap lowest (R .marks), lowest-past b 0 (branch-open h S e)),
       )
 
-  pub stepped-no : Settling cl n a t b u false top → (b′ u′ : List ℕ) → Backed top b u b′ u′ Nowhere → Stepped cl n a t b′ u′ StepNo
+  pub stepped-no : Settling cl n a t b u false m top → (b′ u′ : List ℕ) → Backed top b u b′ u′ Nowhere → Stepped cl n a t b′ u′ StepNo
   stepped-no S b′ u′ e = whole-none (triples cl) a (pending a t n) (clashed S) (sym (S .back) ∙ e)
 
-  pub stepped-back : Settling cl n a t b u false top → (b′ u′ : List ℕ) (k : ℕ) → Backed top b u b′ u′ (To k) → Stepped cl n a t b′ u′ (Next k)
-  stepped-back S b′ u′ k e =
-      (whole-back (triples cl) a (pending a t n) b′ (pending b′ u′ k) (clashed S) (sym (S .back) ∙ e .0), omega (arith, e .1, S .used))
+  pub stepped-back : Settling cl n a t b u false m top → (b′ u′ : List ℕ) (k from : ℕ) → Backed top b u b′ u′ (To k from) → Stepped cl n a t b′ u′ (Next k from)
+  stepped-back S b′ u′ k from e =
+      (whole-back (triples cl) a (pending a t n) b′ (pending b′ u′ k) (clashed S) (sym (S .back) ∙ e .0), omega (arith, e .1, S .used), e .2)

@@ -11,11 +11,11 @@ use Rattle.search.specs.Search.{Run, sat, unsat, run, finishes, left}
 use Rattle.search.specs.declared.Outcome.{Outcome}
 use Rattle.search.specs.declared.Outcome.the-variants.{Yes, No, Stopped}
 
--- the numbers are `many` clauses, each literal is of one of v variables or an unused place, and a literal of v fits 16 bits
+-- the numbers are `many` clauses, each literal is of one of v variables or an unused place, and there are at most 4,095 variables
 pub record Ready (clauses : List ℤ) (many v : ℕ) : Type 0 where
   pub long : length clauses ≡ 3 * many
   pub range : (k : ℕ) → natAbs (getD clauses k (pos 0)) ≤ v
-  pub small : v < 32768
+  pub small : v < 4096
 
 -- "the count is C for 1 and 2"
 unfoldable pub verdict : Run → Outcome

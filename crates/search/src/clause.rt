@@ -1,17 +1,18 @@
-// What a clause says under the values: the value of a literal, whether some literal is true, and whether the clause fails or forces a literal.
-// Signed numbers are taken apart here; everything else in this crate speaks of places and marks.
+// What a clause says, read off the table of truths: whether it is met, open, fails or forces a literal.
+// Signed numbers are taken apart here; everything else in this crate speaks of places, slots and marks.
 ghost use mathlib.Core.Path.{_≡_};
-ghost use Prim.Native.Nat.{_+_, _*_, _≤_};
+ghost use Prim.Native.Nat.{_+_, _*_, _≤_, _<_};
 ghost use lib.ListN.{length};
 ghost use lib.IntN.{natAbs};
 ghost use Rattle.search.specs.Search as def;
-ghost use Rattle.search.specs.Answered.{Ready};
-ghost use Rattle.search.specs.Steps.{Tells};
+ghost use Rattle.search.specs.Steps.{Judges, Table};
 ghost use Rattle.search.specs.Steps as step;
 
-// What a clause, or the first of several, says; what is forced is the literal that stands at a place.
+// What a clause says, or the first of several that says something; what is forced is the literal that stands at a place. Where nothing is said, all is met,
+// or something is open.
 pub enum Told {
-    Quiet,
+    Met,
+    Open,
     Fails,
     Forces(usize),
 }
@@ -46,7 +47,7 @@ pub fn mark(l: i16) -> u8
 }
 
 // True and false change places.
-fn turned(v: u8) -> u8
+pub fn turned(v: u8) -> u8
     ensures { λ r. ⌜ r ≡ def.turned v ⌝ }
 {
     if v == 0 {
@@ -58,83 +59,73 @@ fn turned(v: u8) -> u8
     }
 }
 
-// The value of a literal; an unused place is false.
-fn value(l: i16, values: &[u8]) -> u8
-    requires { ⌜ natAbs l ≤ length (now values) ⌝ }
-    ensures { λ r. ⌜ r ≡ def.value (now (values .entry)) l ⌝ }
+// A mark as the table of truths has it.
+pub fn weight(v: u8) -> u8
+    ensures { λ r. ⌜ r ≡ step.weight v ⌝ }
 {
-    if l == 0 {
-        return 2;
+    if v == 0 {
+        1
+    } else if v == 1 {
+        4
+    } else {
+        0
     }
-    let i = place(l);
-    let v = values[i];
-    if l < 0 { turned(v) } else { v }
 }
 
-// Whether a clause has a true literal.
-pub fn met(c: [i16; 3], values: &[u8]) -> bool
-    requires { ⌜ Ready c 1 (length (now values)) ⌝ }
-    ensures { λ r. ⌜ r ≡ def.met (now (values .entry)) c ⌝ }
+// Where a literal stands in the table of truths.
+fn slot(l: i16) -> usize
+    requires { ⌜ natAbs l < 4096 ⌝ }
+    ensures { λ r. ⌜ r ≡ step.slotOf l ⌝ }
 {
-    if value(c[0], values) == 1 {
-        return true;
-    }
-    if value(c[1], values) == 1 {
-        return true;
-    }
-    value(c[2], values) == 1
+    (l + 4096) as usize
 }
 
-// Whether a literal of this value leaves another one forced: it is assigned, or it is the same literal.
+// Whether a literal of this weight leaves another one forced: it is assigned, or it is the same literal.
 fn leaves_forced(v: u8, same: bool) -> bool
     ensures { λ r. ⌜ r ≡ step.leavesForced v same ⌝ }
 {
-    if v == 0 { same } else { true }
+    if v == 1 { same } else { true }
 }
 
-// What a clause says, from the values of its three literals and whether two of them are the same.
+// What a clause says, from the weights of its three literals and whether two of them are the same.
 fn judge(u: u8, v: u8, w: u8, xy: bool, xz: bool, yz: bool) -> Told
+    requires { ⌜ u + v + w < 256 ⌝ }
     ensures { λ r. ⌜ r ≡ step.judged u v w xy xz yz ⌝ }
 {
+    let sum = u + v + w;
+    if 4 <= sum {
+        return Told::Met;
+    }
+    if sum == 0 {
+        return Told::Fails;
+    }
     if u == 1 {
-        return Told::Quiet;
-    }
-    if v == 1 {
-        return Told::Quiet;
-    }
-    if w == 1 {
-        return Told::Quiet;
-    }
-    if u == 0 {
         if leaves_forced(v, xy) {
             if leaves_forced(w, xz) {
                 return Told::Forces(0);
             }
         }
-        return Told::Quiet;
+        return Told::Open;
     }
-    if v == 0 {
+    if v == 1 {
         if leaves_forced(w, yz) {
             return Told::Forces(1);
         }
-        return Told::Quiet;
+        return Told::Open;
     }
-    if w == 0 {
-        return Told::Forces(2);
-    }
-    Told::Fails
+    Told::Forces(2)
 }
 
 // What a clause says.
-pub fn says(c: [i16; 3], values: &[u8]) -> Told
-    requires { ⌜ Ready c 1 (length (now values)) ⌝ }
-    ensures { λ r. ⌜ Tells c r (def.says (now (values .entry)) c) ⌝ }
+pub fn says(c: [i16; 3], truth: &[u8]) -> Told
+    requires { ⌜ Table c 1 (now truth) ⌝ }
+    ensures { λ r. ⌜ Judges c (now (truth .entry)) r ⌝ }
 {
     let x = c[0];
     let y = c[1];
     let z = c[2];
-    let u = value(x, values);
-    let v = value(y, values);
-    let w = value(z, values);
-    judge(u, v, w, x == y, x == z, y == z)
+    let i = slot(x);
+    let j = slot(y);
+    let k = slot(z);
+    judge(truth[i], truth[j], truth[k], x == y, x == z, y == z)
 }

@@ -7,9 +7,10 @@ mod trail;
 
 ghost use mathlib.Core.Path.{_≡_};
 ghost use mathlib.Core.List.{map};
-ghost use Prim.Native.Nat.{_%_, _≤_};
-ghost use lib.ListN.{length};
+ghost use Prim.Native.Nat.{_%_, _≤_, _<_};
+ghost use lib.ListN.{length, getD, replicate};
 ghost use Rattle.search.specs.Answered.{Ready, Answered};
+ghost use Rattle.search.specs.Steps.{Mirrors};
 use branch::walk;
 use ground::clear_u8;
 use ground::clear_u16;
@@ -22,7 +23,7 @@ pub enum Outcome {
 }
 
 // Searches `many` clauses within `budget` nodes. What the values hold at entry does not matter; the trail is working space, zero afterwards. Besides the
-// nodes it costs two passes over the values and one over the trail.
+// nodes it costs two passes over the values, one over the trail, and making the table of truths, which has 8,192 bytes on the stack.
 pub fn search(
     clauses: &[i16],
     many: usize,
@@ -36,7 +37,9 @@ pub fn search(
     let variables = values.len();
     let places = trail.len();
     clear_u8(values, variables);
-    let outcome = walk(clauses, many, values, trail, budget);
+    let mut truth = [0u8; 8192];
+    open_up(&mut truth, variables);
+    let outcome = walk(clauses, many, values, &mut truth, trail, budget);
     clear_u16(trail, places);
     match outcome {
         Outcome::Yes(_) => finish(values),
@@ -44,6 +47,19 @@ pub fn search(
         Outcome::Stopped(_) => clear_u8(values, variables),
     }
     outcome
+}
+
+// The table of truths where none of so many variables is assigned. One pass over the variables.
+fn open_up(truth: &mut [u8], variables: usize)
+    requires { ⌜ (length (now truth) ≡ 8192) × (getD (now truth) 4096 0 ≡ 0) × (variables < 4096) ⌝ }
+    ensures { λ _. ⌜ Mirrors (replicate variables 0) (now (truth .exit)) ⌝ }
+{
+    let mut i: usize = 0;
+    while i < variables {
+        truth[4097 + i] = 1;
+        truth[4095 - i] = 1;
+        i += 1;
+    }
 }
 
 // The values of a yes: 1 for true, 0 for false and for unassigned. One pass over the variables.

@@ -1,52 +1,76 @@
 // The trail: which variables were assigned, in order, so that they can be undone. An entry is a variable's place; a first branch has FIRST added.
+// All that assigns or undoes goes through `put`, which keeps the table of truths in step with the values.
 ghost use mathlib.Core.Path.{_≡_};
 ghost use Prim.Native.Nat.{_+_, _≤_, _<_};
 ghost use lib.ListN.{length, set};
-ghost use Rattle.search.specs.Steps.{Backed};
+ghost use Rattle.search.specs.Search.{lowest};
+ghost use Rattle.search.specs.Steps.{Mirrors, Backed};
+use crate::clause::turned;
+use crate::clause::weight;
 
 pub const FIRST: u16 = 32768;
 
-// Where going back leads: nowhere, or to a second branch, which has so many entries on the trail.
+// Where going back leads: nowhere, or to a second branch, which has so many entries on the trail, and no unassigned variable below a place.
 pub enum Turn {
     Nowhere,
-    To(usize),
-}
-
-// Gives the variable at i the mark v, and notes it on the trail at n, with a flag.
-pub fn note(values: &mut [u8], trail: &mut [u16], n: usize, i: usize, v: u8, flag: u16)
-    requires { ⌜ (i < length (now values)) × (n < length (now trail)) × (i + flag < 65536) ⌝ }
-    ensures { λ _. ⌜ (now (values .exit) ≡ set (now (values .entry)) i v) × (now (trail .exit) ≡ set (now (trail .entry)) n (i + flag)) ⌝ }
-{
-    values[i] = v;
-    trail[n] = i as u16 + flag;
+    To(usize, usize),
 }
 
 // Gives the variable at i the mark v, if there is one.
-fn put(values: &mut [u8], i: usize, v: u8)
-    ensures { λ _. ⌜ now (values .exit) ≡ set (now (values .entry)) i v ⌝ }
+fn put(values: &mut [u8], truth: &mut [u8], i: usize, v: u8)
+    requires { ⌜ Mirrors (now values) (now truth) ⌝ }
+    ensures { λ _. ⌜ (now (values .exit) ≡ set (now (values .entry)) i v) × Mirrors (now (values .exit)) (now (truth .exit)) ⌝ }
 {
     if i < values.len() {
         values[i] = v;
+        truth[4097 + i] = weight(v);
+        truth[4095 - i] = weight(turned(v));
     }
+}
+
+// Gives the variable at i the mark v, and notes it on the trail at n, with a flag.
+pub fn note(
+    values: &mut [u8],
+    truth: &mut [u8],
+    trail: &mut [u16],
+    n: usize,
+    i: usize,
+    v: u8,
+    flag: u16,
+)
+    requires { ⌜ (n < length (now trail)) × (i + flag < 65536) × Mirrors (now values) (now truth) ⌝ }
+    ensures { λ _. ⌜ (now (values .exit) ≡ set (now (values .entry)) i v) × (now (trail .exit) ≡ set (now (trail .entry)) n (i + flag)) × Mirrors (now (values .exit)) (now (truth .exit)) ⌝ }
+{
+    put(values, truth, i, v);
+    trail[n] = i as u16 + flag;
+}
+
+// The lower of two places.
+fn lower(i: usize, j: usize) -> usize
+    ensures { λ r. ⌜ (r ≤ i) × (r ≤ j) ⌝ }
+{
+    if i < j { i } else { j }
 }
 
 // Undoes what the first n entries of the trail have assigned, back to the latest first branch, and makes that one the second. Each entry is undone
 // once, so all going back costs no more than all assigning.
-pub fn back(values: &mut [u8], trail: &mut [u16], n: usize) -> Turn
-    requires { ⌜ n ≤ length (now trail) ⌝ }
-    ensures { λ r. ⌜ Backed n (now (values .entry)) (now (trail .entry)) (now (values .exit)) (now (trail .exit)) r ⌝ }
+pub fn back(values: &mut [u8], truth: &mut [u8], trail: &mut [u16], n: usize, from: usize) -> Turn
+    requires { ⌜ (n ≤ length (now trail)) × (from ≤ lowest (now values)) × Mirrors (now values) (now truth) ⌝ }
+    ensures { λ r. ⌜ Backed n (now (values .entry)) (now (trail .entry)) (now (values .exit)) (now (trail .exit)) r × Mirrors (now (values .exit)) (now (truth .exit)) ⌝ }
 {
     let mut k = n;
+    let mut low = from;
     while 0 < k {
         k -= 1;
         let e = trail[k];
         if e < FIRST {
-            put(values, e as usize, 0);
+            put(values, truth, e as usize, 0);
+            low = lower(low, e as usize);
         } else {
             let i = e - FIRST;
-            put(values, i as usize, 2);
+            put(values, truth, i as usize, 2);
             trail[k] = i;
-            return Turn::To(k + 1);
+            return Turn::To(k + 1, low);
         }
     }
     Turn::Nowhere

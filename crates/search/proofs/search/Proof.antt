@@ -10,7 +10,7 @@ use Rattle.ground.specs.Buffer.{filled, cleared}
 use Rattle.clauses.specs.Clause.{triples}
 use Rattle.search.specs.Search.{Run, run}
 use Rattle.search.specs.Answered.{Ready}
-use Rattle.search.specs.Steps.{nodeOf, Ran}
+use Rattle.search.specs.Steps.{Mirrors, Shown, nodeOf, Ran}
 use Rattle.search.specs.declared.Outcome.{Outcome}
 use Rattle.search.specs.declared.Outcome.the-variants.{Yes, No, Stopped}
 use Rattle.search.proofs.Marks.{zeros-le}
@@ -30,12 +30,38 @@ cleared-all {A} z n old e =
 clear-u8-requires : tie.Need-clear-u8-requires
 clear-u8-requires c κs = search needs
 
+-- after the values are cleared and the table made: nothing is assigned
+module _ (O : tie.After-open-up) where
+  abbrev C : tie.After-clear-u8
+  C = O .before .before .before .before
+
+  abbrev s : tie.Start
+  s = C .before .before .before .before
+
+  abbrev a : List ℕ
+  a = C .clear-u8 .last .0
+
+  none : a ≡ replicate (length (s .args .values .now)) 0
+  none = C .clear-u8 .ensures ∙ cleared-all 0 (length (s .args .values .now)) (s .args .values .now) refl
+
+  shown : Shown (s .args .clauses .now) (s .args .many) a (O .open-up .last .0)
+  shown =
+      record {
+        ready = subst (λ (v : ℕ). Ready (s .args .clauses .now) (s .args .many) v) (sym (C .clear-u8 .kept .0)) (s .pre .0);
+        mirrors = subst (λ (x : List ℕ). Mirrors x (O .open-up .last .0)) (sym none) (O .open-up .ensures);
+      }
+
+slice-aggregate-open-up : tie.Need-slice-aggregate-open-up
+slice-aggregate-open-up c = search needs
+
+open-up-requires : tie.Need-open-up-requires
+open-up-requires c κs = search needs
+
+slice-aggregate-walk : tie.Need-slice-aggregate-walk
+slice-aggregate-walk c = search needs
+
 walk-requires : tie.Need-walk-requires
-walk-requires c κs =
-    let s = c .before .before .before .before .before .before .before .before in
-    let C = c .before .before .before .before in
-    let e : length (C .clear-u8 .last .0) ≡ length (s .args .values .now) = C .clear-u8 .kept .0 in
-    (subst (λ (v : ℕ). Ready (s .args .clauses .now) (s .args .many) v) (sym e) (s .pre .0), omega (arith, zeros-le (C .clear-u8 .last .0), e, s .pre .1))
+walk-requires c κs = let O = c .before .before .before .before in (shown O, omega (arith, zeros-le (a O), C O .clear-u8 .kept .0, s O .pre .1))
 
 clear-u16-requires : tie.Need-clear-u16-requires
 clear-u16-requires c κs = search needs
@@ -49,34 +75,33 @@ finish-requires c κs = search needs
 -- after the walk and the clearing of the trail
 module _ (T : tie.After-clear-u16) where
   abbrev W : tie.After-walk
-  W = T .before .before .before .before .before .before
+  W = T .before .before .before .before .before .before .before
 
-  abbrev C : tie.After-clear-u8
-  C = W .before .before .before .before .before
+  abbrev O : tie.After-open-up
+  O = W .before .before .before .before .before
 
-  abbrev s : tie.Start
-  s = C .before .before .before .before
+  abbrev z : tie.Start
+  z = s O
 
   abbrev v : ℕ
-  v = length (s .args .values .now)
+  v = length (z .args .values .now)
 
   abbrev a′ : List ℕ
   a′ = W .walk .last .1 .1 .0
 
   long : length a′ ≡ v
-  long = W .walk .kept .1 .1 .0 ∙ C .clear-u8 .kept .0
+  long = W .walk .kept .1 .1 .0 ∙ C O .clear-u8 .kept .0
 
   abbrev R : Run
-  R = run v (triples (s .args .clauses .now))
+  R = run v (triples (z .args .clauses .now))
 
-  ran : (o : Outcome) → W .walk .result ≡ o → Ran R (s .args .budget) a′ o
+  ran : (o : Outcome) → W .walk .result ≡ o → Ran R (z .args .budget) a′ o
   ran o e =
-      subst (λ (X : Run). Ran X (s .args .budget) a′ o)
-      (run-is (triples (s .args .clauses .now)) v (C .clear-u8 .last .0) (C .clear-u8 .ensures ∙ cleared-all 0 v (s .args .values .now) refl))
-      (subst (λ (x : Outcome). Ran (nodeOf (triples (s .args .clauses .now)) (C .clear-u8 .last .0)) (s .args .budget) a′ x) e (W .walk .ensures))
+      subst (λ (X : Run). Ran X (z .args .budget) a′ o) (run-is (triples (z .args .clauses .now)) v (a O) (none O))
+      (subst (λ (x : Outcome). Ran (nodeOf (triples (z .args .clauses .now)) (a O)) (z .args .budget) a′ x) e (W .walk .ensures))
 
-  trail-clear : T .clear-u16 .last .0 ≡ replicate (length (s .args .trail .now)) 0
-  trail-clear = T .clear-u16 .ensures ∙ cleared-all 0 (length (s .args .trail .now)) (W .walk .last .1 .1 .1 .0) (W .walk .kept .1 .1 .1 .0)
+  trail-clear : T .clear-u16 .last .0 ≡ replicate (length (z .args .trail .now)) 0
+  trail-clear = T .clear-u16 .ensures ∙ cleared-all 0 (length (z .args .trail .now)) (W .walk .last .1 .1 .1 .1 .0) (W .walk .kept .1 .1 .1 .1 .0)
 
 enum-told-2 : tie.Need-enum-told-2
 enum-told-2 c = search needs
@@ -103,7 +128,7 @@ returns c =
     let n = o .enum-told .given .0 .0 in
     let e = o .enum-told .given .1 in
     let h = ran T (Yes n) e in
-    let y = answer-yes (s T .args .budget) (v T) (R T) (a′ T) n (h .0) (h .1) in
+    let y = answer-yes (z T .args .budget) (v T) (R T) (a′ T) n (h .0) (h .1) in
     record { gives = e ∙ y .0; leaves = c .before .before .finish .ensures ∙ y .1; clears = trail-clear T }
 
 same-length-3 : tie.Need-same-length-3
@@ -119,7 +144,7 @@ returns-2 c =
     let n = o .enum-told2 .given .0 .0 in
     let e = o .enum-told2 .given .1 in
     let h = ran T (No n) e in
-    let y = answer-no (s T .args .budget) (v T) (R T) n (h .0) (h .1) in
+    let y = answer-no (z T .args .budget) (v T) (R T) n (h .0) (h .1) in
     record { gives = e ∙ y .0; leaves = c .before .before .clear-u82 .ensures ∙ cleared-all 0 (v T) (a′ T) (long T) ∙ y .1; clears = trail-clear T }
 
 same-length-5 : tie.Need-same-length-5
@@ -135,11 +160,11 @@ returns-3 c =
     let n = o .enum-told3 .given .0 .0 in
     let e = o .enum-told3 .given .1 in
     let h = ran T (Stopped n) e in
-    let y = answer-stopped (s T .args .budget) (v T) (R T) n (h .0) (h .1) in
+    let y = answer-stopped (z T .args .budget) (v T) (R T) n (h .0) (h .1) in
     record { gives = e ∙ y .0; leaves = c .before .before .clear-u83 .ensures ∙ cleared-all 0 (v T) (a′ T) (long T) ∙ y .1; clears = trail-clear T }
 
 pub search-spec : {M : Type 1} → statement M
 search-spec =
     tie.close
-    (tie.spec clear-u8-requires walk-requires clear-u16-requires enum-told finish-requires enum-told-2 clear-u8-requires-2
+    (tie.spec clear-u8-requires slice-aggregate-open-up open-up-requires slice-aggregate-walk walk-requires clear-u16-requires enum-told finish-requires enum-told-2 clear-u8-requires-2
     enum-told-3 clear-u8-requires-3 same-length same-length-2 returns same-length-3 same-length-4 returns-2 same-length-5 same-length-6 returns-3)

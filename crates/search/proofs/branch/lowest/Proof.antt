@@ -1,6 +1,6 @@
 -- `search::branch::lowest` meets its contract. The invariant: the lowest is i places and then the lowest from i on. Assumes nothing.
 use mathlib.Core.Path.{_≡_, refl, sym, ap, _∙_}
-use mathlib.Core.List.{List, _∷_}
+use mathlib.Core.List.{List, [], _∷_}
 use Prim.Native.Nat.{ℕ, zero, suc, _+_, _-_, _≤_, _<_}
 use native.Mathlib.Numerals.{add-one}
 use native.Mathlib.Omega.{arith}
@@ -8,6 +8,7 @@ use borrow.Author.Needs.{needs}
 use lib.ListN.{length, getD, drop, drop-of-length-le}
 use lib.Seq.{drop-cons}
 use Rattle.search.specs.Search.{lowest}
+use Rattle.search.proofs.Marks.{lowest-le}
 use Rattle.search.proofs.branch.lowest.Statement.{statement}
 use Rattle.search.proofs.branch.lowest.Tie as tie
 
@@ -26,14 +27,21 @@ lowest-end : (a : List ℕ) (i : ℕ) → length a ≤ i → lowest (drop i a) �
 unfolding lowest
 lowest-end a i h = ap lowest (drop-of-length-le a h)
 
+lowest-from : (a : List ℕ) (k : ℕ) → k ≤ lowest a → k + lowest (drop k a) ≡ lowest a
+unfolding lowest
+lowest-from a zero h = omega arith
+lowest-from [] (suc k) h = absurd (omega arith)
+lowest-from (zero ∷ a) (suc k) h = absurd (omega arith)
+lowest-from (suc x ∷ a) (suc k) h = omega (arith, lowest-from a k (omega arith))
+
 abbrev Inv-loop : tie.InvT-loop
-Inv-loop a i₀ i = (i ≤ length a) × (i + lowest (drop i a) ≡ lowest a)
+Inv-loop a from i₀ i = (i ≤ length a) × (i + lowest (drop i a) ≡ lowest a)
 
 abbrev μ-loop : tie.MeasureT-loop
-μ-loop a i₀ i = length a - i
+μ-loop a from i₀ i = length a - i
 
 loop-holds : tie.Need-loop-holds Inv-loop μ-loop
-loop-holds c = omega arith
+loop-holds c = let a = c .args .values .now in (omega (arith, lowest-le a, c .pre), lowest-from a (c .args .from) (c .pre))
 
 shared-slice-read-if1 : tie.Need-shared-slice-read-if1 Inv-loop μ-loop
 shared-slice-read-if1 c = search needs
