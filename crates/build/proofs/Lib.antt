@@ -3,4 +3,3 @@ pub mod Seeing
 pub mod Looping
 pub mod Filling
 pub mod Single
-pub mod Reading

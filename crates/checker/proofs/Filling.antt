@@ -1,15 +1,13 @@
 -- From what the build and the search leave in the buffers to what the definition says that they hold. Assumes nothing.
-use Prim.Native.Nat.{ℕ, suc, _+_, _-_, _*_, _≤_, _<_}
+use Prim.Native.Nat.{ℕ, _+_, _*_}
 use native.Mathlib.Omega.{arith}
-use native.Mathlib.Decide.{decLt}
 use mathlib.Core.Path.{_≡_, refl, sym, ap, _∙_, subst}
 use mathlib.Core.Bool.{Bool, true, false, cond}
 use mathlib.Core.List.{List, [], _++_}
 use lib.IntN.{ℤ, pos}
-use lib.ListN.{length, getD, take, drop, replicate, length-append, length-drop, length-map, length-replicate, List·getD-append, List·getD-eq-default, getD-replicate}
-use lib.Seq.{getD-append-add, getD-drop}
+use lib.ListN.{length, take, drop, replicate, length-replicate}
 use Rattle.ground.specs.Buffer.{filled, cleared}
-use Rattle.ground.proofs.Buffers.{Laid, Kept, length-filled, filled-laid, filled-kept, is-filled}
+use Rattle.ground.proofs.Buffers.{length-filled, take-filled, zeros-filled, over-cleared}
 use Rattle.clauses.specs.Clause.{triples}
 use Rattle.clauses.proofs.Numbers.{length-numbers, triples-numbers}
 use Rattle.book.specs.Rulebook.{tableOf}
@@ -19,47 +17,16 @@ use Rattle.encoding.specs.Build.{Build, built, variables#, clauses#}
 use Rattle.encoding.specs.Limits.{maxStates, maxVariables, maxClauses, oversized, stateBuffer, wordBuffer, clauseBuffer}
 use Rattle.encoding.specs.declared.counts.Build as counts
 use Rattle.encoding.proofs.Bounds.{clauses-range, clauses-threes}
-use Rattle.structure.proofs.Recorded.{take-filled}
 use Rattle.build.specs.Filled.{Filled, builtOf, totals}
 use Rattle.build.specs.declared.Built.{Built}
 use Rattle.build.specs.declared.Built.the-variants.{Whole, Over}
-use Rattle.search.specs.Search.{run, left, nodes, finishes}
-use Rattle.search.specs.Answered.{Ready}
-use Rattle.meaning.specs.Answers.{Answer, refusal, searched, judged, verdict}
-use Rattle.checker.specs.Checked.{Lent, lent, enough, emptied, holding, Outcome, leaving, finished, told}
+use Rattle.search.specs.Search.{run, left}
+use Rattle.meaning.specs.Answers.{Answer, refusal, searched, judged}
+use Rattle.checker.specs.Checked.{Lent, lent, enough, holding, leaving, finished, told}
 use Rattle.checker.specs.Steps.{Fit, run-of, decided, Decided, Searchable}
 use Rattle.checker.specs.declared.Answer as code
 use Rattle.checker.specs.declared.Answer.the-variants.{Oversized}
-use Rattle.checker.proofs.Promising.{Enough, enough-is, Within, within, finished-over, finished-whole, length-left}
-
--- ---- a list laid over the front of a cleared buffer
-module _ {A : Type 0} (z : A) (n : ℕ) (xs old : List A) (low : length xs ≤ n) (long : n ≤ length old) where
-  abbrev front : List A
-  front = xs ++ drop (length xs) (cleared z n old)
-
-  pub over-cleared : front ≡ filled z n xs old
-  over-cleared =
-      is-filled z n xs old front long
-      (rw (length-append, length-drop, length-filled z n [] old long) (omega arith))
-      (λ i h. laid i h (decLt i (length xs)))
-      (λ i h. same i (omega arith) ∙ filled-kept z n [] old i h)
-    where
-      same : (i : ℕ) → length xs ≤ i → getD front i z ≡ getD (cleared z n old) i z
-      same i q =
-          let e : length xs + (i - length xs) ≡ i = omega arith in
-          ap (λ (k : ℕ). getD front k z) (sym e) ∙ getD-append-add xs (drop (length xs) (cleared z n old)) (i - length xs) z ∙ getD-drop (length xs) (cleared z n old) (i - length xs) z ∙ ap (λ (k : ℕ). getD (cleared z n old) k z) e
-
-      laid : (i : ℕ) → i < n → Dec (i < length xs) → getD front i z ≡ getD xs i z
-      laid i h (yes q) = List·getD-append xs (drop (length xs) (cleared z n old)) z i q
-      laid i h (no q) = same i (omega arith) ∙ filled-laid z n [] old i h ∙ sym (List·getD-eq-default xs z (omega arith))
-
--- zeros laid are zeros
-zeros-filled : {A : Type 0} (z : A) (n k : ℕ) (old : List A) → n ≤ length old → filled z n (replicate k z) old ≡ cleared z n old
-zeros-filled z n k old long = is-filled z n [] old (filled z n (replicate k z) old) long (length-filled z n (replicate k z) old long) (λ i h. filled-laid z n (replicate k z) old i h ∙ zero-at i (decLt i k)) (filled-kept z n (replicate k z) old)
-  where
-    zero-at : (i : ℕ) → Dec (i < k) → getD (replicate k z) i z ≡ z
-    zero-at i (yes h) = getD-replicate k i z z h
-    zero-at i (no h) = List·getD-eq-default (replicate k z) z (omega (arith, length-replicate k z))
+use Rattle.checker.proofs.Promising.{enough-is, Within, within, finished-over, finished-whole, length-left}
 
 -- ---- what `fill` answered
 whole-is : (B : Build) (b : counts.Build) → Whole b ≡ builtOf B → (oversized B ≡ false) × (b ≡ totals B)

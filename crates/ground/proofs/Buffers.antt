@@ -4,8 +4,8 @@ use native.Mathlib.Omega.{arith}
 use native.Mathlib.Decide.{ℕ-discrete, decLt}
 use mathlib.Core.Path.{_≡_, refl, sym, ap, _∙_}
 use mathlib.Core.List.{List, [], _∷_, _++_}
-use lib.ListN.{length, getD, set, take, drop, replicate, length-append, length-take, length-drop, length-set, length-replicate, getD-replicate, List·getD-append, List·getD-eq-default}
-use lib.Seq.{getD-set-same, getD-set-other, getD-append-seam, getD-take, getD-drop, getD-append-add, take-at, ext-getD, length-take-le}
+use lib.ListN.{length, getD, set, take, drop, replicate, length-append, length-drop, length-set, length-replicate, getD-replicate, take-append-drop, List·getD-append, List·getD-eq-default}
+use lib.Seq.{getD-set-same, getD-set-other, getD-append-seam, getD-take, getD-drop, getD-append-add, ext-getD, length-take-le, take-append-le, take-append-seam, take-take}
 use Rattle.ground.specs.Buffer.{filled, cleared}
 use Rattle.ground.proofs.Lists.{length-snoc, getD-snoc-other}
 
@@ -56,6 +56,25 @@ module _ {A : Type 0} where
       go i (yes p) = laid i p ∙ sym (filled-laid z n xs old i p)
       go i (no p) = kept i (omega arith) ∙ sym (filled-kept z n xs old i (omega arith))
 
+  -- the front of a filled buffer is what it was filled with
+  pub take-filled : (z : A) (n : ℕ) (xs old : List A) → length xs ≤ n → take (length xs) (filled z n xs old) ≡ xs
+  unfolding filled
+  take-filled z n xs old h =
+      take-append-le (length xs) (take n (xs ++ replicate n z)) (drop n old) (rw (front z n xs) h)
+      ∙ take-take (length xs) n (xs ++ replicate n z) h
+      ∙ take-append-seam xs (replicate n z)
+
+  pub filled-front : (z : A) (n : ℕ) (xs old : List A) → length xs ≤ n → filled z n xs old ≡ xs ++ drop (length xs) (filled z n xs old)
+  filled-front z n xs old h = sym (take-append-drop (length xs) (filled z n xs old)) ∙ ap (λ (l : List A). l ++ drop (length xs) (filled z n xs old)) (take-filled z n xs old h)
+
+  -- zeros laid are zeros
+  pub zeros-filled : (z : A) (n k : ℕ) (old : List A) → n ≤ length old → filled z n (replicate k z) old ≡ cleared z n old
+  zeros-filled z n k old long = is-filled z n [] old (filled z n (replicate k z) old) long (length-filled z n (replicate k z) old long) (λ i h. filled-laid z n (replicate k z) old i h ∙ zero-at i (decLt i k)) (filled-kept z n (replicate k z) old)
+    where
+      zero-at : (i : ℕ) → Dec (i < k) → getD (replicate k z) i z ≡ z
+      zero-at i (yes h) = getD-replicate k i z z h
+      zero-at i (no h) = List·getD-eq-default (replicate k z) z (omega (arith, length-replicate k z))
+
   -- one element more, at the end of what is laid
   pub laid-push : (z : A) (n : ℕ) (xs buf : List A) (x : A) (m : ℕ) → m ≡ length xs → m < n → n ≤ length buf → Laid z n xs buf → Laid z n (xs ++ x ∷ []) (set buf m x)
   laid-push z n xs buf x m e h k l i j = go (ℕ-discrete i m)
@@ -93,3 +112,24 @@ module _ {A : Type 0} (z : A) (n : ℕ) (old : List A) where
 
   pub clear-end : (i : ℕ) (buf : List A) → n ≤ length old → n ≤ i → Clearing z n i old buf → buf ≡ cleared z n old
   clear-end i buf h q c = is-filled z n [] old buf h (c .long) (λ k p. c .laid k (omega arith)) (c .kept)
+
+-- a list laid over the front of a cleared buffer
+module _ {A : Type 0} (z : A) (n : ℕ) (xs old : List A) (low : length xs ≤ n) (long : n ≤ length old) where
+  abbrev over : List A
+  over = xs ++ drop (length xs) (cleared z n old)
+
+  pub over-cleared : over ≡ filled z n xs old
+  over-cleared =
+      is-filled z n xs old over long
+      (rw (length-append, length-drop, length-filled z n [] old long) (omega arith))
+      (λ i h. laid i h (decLt i (length xs)))
+      (λ i h. same i (omega arith) ∙ filled-kept z n [] old i h)
+    where
+      same : (i : ℕ) → length xs ≤ i → getD over i z ≡ getD (cleared z n old) i z
+      same i q =
+          let e : length xs + (i - length xs) ≡ i = omega arith in
+          ap (λ (k : ℕ). getD over k z) (sym e) ∙ getD-append-add xs (drop (length xs) (cleared z n old)) (i - length xs) z ∙ getD-drop (length xs) (cleared z n old) (i - length xs) z ∙ ap (λ (k : ℕ). getD (cleared z n old) k z) e
+
+      laid : (i : ℕ) → i < n → Dec (i < length xs) → getD over i z ≡ getD xs i z
+      laid i h (yes q) = List·getD-append xs (drop (length xs) (cleared z n old)) z i q
+      laid i h (no q) = same i (omega arith) ∙ filled-laid z n [] old i h ∙ sym (List·getD-eq-default xs z (omega arith))
