@@ -1,11 +1,11 @@
--- The loops of a build. After j turns the code shows what the definition's scan gives at place j; it begins where the scan has done nothing yet, and
--- ends where the definition ends. Assumes nothing.
-use Prim.Native.Nat.{ℕ, suc, _+_, _*_, _≤_, _<_}
+-- The loops of a build. Where the code stands at place j it shows what the definition's scan gives at j: at the places that it passes over the scan
+-- does nothing. It ends where the definition ends. Assumes nothing.
+use Prim.Native.Nat.{ℕ, suc, _+_, _-_, _*_, _/_, _≤_, _<_}
 use native.Mathlib.Omega.{arith}
 use native.Mathlib.Decide.{ℕ-discrete}
 use native.Mathlib.Nat.{zero-add}
 use native.Mathlib.Numerals.{add-one}
-use mathlib.Core.Path.{_≡_, refl, sym, _∙_, subst}
+use mathlib.Core.Path.{_≡_, refl, sym, ap, _∙_, subst}
 use mathlib.Core.Bool.{Bool, true, false}
 use mathlib.Core.List.{List}
 use lib.IntN.{ℤ}
@@ -16,14 +16,15 @@ use Rattle.signed.specs.Signed.{leaf}
 use Rattle.signed.specs.declared.Ask.{Ask}
 use Rattle.encoding.specs.Build as def
 use Rattle.encoding.specs.Build.{Plan, plan, variables#, novariable, norecord, scan, by, rule1, rule2, rule3, push, phase1, phase2, phase3, expand}
-use Rattle.encoding.specs.Shows.{Room, Buffers, buffers, Shows, Apart, Parents}
+use Rattle.encoding.specs.Index.{Others, Indexed}
+use Rattle.encoding.specs.Shows.{Room, Buffers, buffers, Shows, Next, Writes, Makes, Parents}
 use Rattle.encoding.specs.declared.counts.Counts.{Counts}
-use Rattle.encoding.proofs.Loops.{scan-next}
+use Rattle.encoding.proofs.Loops.{scan-add, scan-next}
 use Rattle.encoding.proofs.Totals.{Less, scan-less, by1-less, by2-less, by3-less}
 use Rattle.encoding.proofs.Rows.{numbers-at}
 use Rattle.encoding.proofs.Words.{word-at, word-state}
 use Rattle.encoding.proofs.Steps.{over-stays, next-refl, next-then, made-refl, made-then}
-use Rattle.encoding.proofs.Settling.{Due, Settles}
+use Rattle.encoding.proofs.Settling.{Due, Settles, due-upto}
 use Rattle.encoding.proofs.Skipping as skipping
 use Rattle.build.specs.Does.{Stays, Moves, Does, Asking, Making, Pushing, Pushes}
 
@@ -40,6 +41,13 @@ moves-refl s c st ws room = record { next = next-refl c ws room; made = made-ref
 
 pub moves-then : {s : ℕ} {c d r : Counts} {st st₁ st₂ ws ws₁ ws₂ : List ℕ} → Moves s c d st st₁ ws ws₁ → Moves s d r st₁ st₂ ws₁ ws₂ → Moves s c r st st₂ ws ws₂
 moves-then a b = record { next = next-then (a .next) (b .next); made = made-then (a .next .states) (a .made) (b .made) }
+
+-- neither a clause nor a state touches the words or their number
+pub indexed-written : {c r : Counts} {k cs cs′ : List ℤ} {ws finder own : List ℕ} → Writes c k cs cs′ r → Indexed (c .variables) ws finder own → Indexed (r .variables) ws finder own
+indexed-written {c} {r} {k} {cs} {cs′} {ws} {finder} {own} w h = subst (λ (n : ℕ). Indexed n ws finder own) (sym (w .variables)) h
+
+pub indexed-made : {c r : Counts} {s q p : ℕ} {st st′ ws finder own : List ℕ} → Makes c s q p st st′ r → Indexed (c .variables) ws finder own → Indexed (r .variables) ws finder own
+indexed-made {c} {r} {s} {q} {p} {st} {st′} {ws} {finder} {own} m h = subst (λ (n : ℕ). Indexed n ws finder own) (sym (m .variables)) h
 
 -- once over a limit, nothing is done
 module _ {c : Counts} (room : Room c) (on : c .over ≡ true) where
@@ -63,42 +71,93 @@ scan-start f o c b B sh = sh
 pub scan-step : (f : ℕ → def.Build → def.Build) (j : ℕ) (o : Buffers) (c : Counts) (b : Buffers) (B : def.Build) → Shows o c b (f j (scan f j 0 B)) → Shows o c b (scan f (j + 1) 0 B)
 scan-step f j o c b B sh = rw (add-one j, scan-next f j 0 B, zero-add j) sh
 
--- the places before `from` belong to other states, or the build is over: the scan has done nothing there
+-- one turn more was due
+pub due-more : (f : ℕ → def.Build → def.Build) (size : def.Build → ℕ) (k : ℕ) (B : def.Build) → Due f size k B → k < size (scan f k 0 B) → Due f size (k + 1) B
+due-more f size k B due h u q = go (ℕ-discrete u k)
+  where
+    go : Dec (u ≡ k) → u < size (scan f u 0 B)
+    go (yes e) = rw e h
+    go (no e) = due u (omega arith)
+
+-- no place from v on and before r belongs to s, or the build is over: the scan has done nothing there
 module _ (φ : Plan) (rule : ℕ → ℕ → class.Class → def.Build → def.Build) (idle : (s v : ℕ) (B : def.Build) → rule s v leaf B ≡ B) (less : (s u : ℕ) (B : def.Build) → Less B (by φ rule s u B)) where
-  begins : (s from : ℕ) (o : Buffers) (c : Counts) (b : Buffers) (B : def.Build) → Room c → from ≤ c .variables → Apart from s (b .words) → Shows o c b B → Shows o c b (scan (by φ rule s) from 0 B)
-  begins s from o c b B room h apart sh = go (c .over) refl
+  passes : (s v r : ℕ) (o : Buffers) (c : Counts) (b : Buffers) (B : def.Build) → Room c → v ≤ r → r ≤ c .variables → Others v r s (b .words) → Shows o c b (scan (by φ rule s) v 0 B) → Shows o c b (scan (by φ rule s) r 0 B)
+  passes s v r o c b B room le h others sh = go (c .over) refl
     where
-      other : c .over ≡ false → (u : ℕ) → u < from → getD (B .variables) u novariable .state ≡ s → ⊥
-      other off u q e =
+      further : scan (by φ rule s) r 0 B ≡ scan (by φ rule s) (r - v) (0 + v) (scan (by φ rule s) v 0 B)
+      further = let e : r ≡ v + (r - v) = omega arith in ap (λ (n : ℕ). scan (by φ rule s) n 0 B) e ∙ scan-add (by φ rule s) v (r - v) 0 B
+
+      other : c .over ≡ false → (u : ℕ) → v ≤ u → u < r → getD (scan (by φ rule s) v 0 B .variables) u novariable .state ≡ s → ⊥
+      other off u p q e =
           let y = sh .exact off in
-          let w = word-at (B .variables) (b .words) (omega (arith, room .variables, y .variables)) (y .in-words) u (omega (arith, y .variables)) in
-          apart u q (rw w (word-state (getD (B .variables) u novariable) (y .keys u) ∙ e))
+          let xs = scan (by φ rule s) v 0 B .variables in
+          let w = word-at xs (b .words) (omega (arith, room .variables, y .variables)) (y .in-words) u (omega (arith, y .variables)) in
+          others u p q (rw w (word-state (getD xs u novariable) (y .keys u) ∙ e))
 
-      go : (t : Bool) → c .over ≡ t → Shows o c b (scan (by φ rule s) from 0 B)
-      go true e = over-stays o c b B (scan (by φ rule s) from 0 B) e (scan-less (by φ rule s) (less s) from 0 B) sh
-      go false e = rw (skipping.by-skips φ rule idle s from B (other e)) sh
+      go : (t : Bool) → c .over ≡ t → Shows o c b (scan (by φ rule s) r 0 B)
+      go true e = rw further (over-stays o c b (scan (by φ rule s) v 0 B) _ e (scan-less (by φ rule s) (less s) (r - v) (0 + v) (scan (by φ rule s) v 0 B)) sh)
+      go false e = rw (skipping.by-skips φ rule idle s v r B le (other e)) sh
 
-module _ (φ : Plan) {s from : ℕ} {o : Buffers} {c : Counts} {b : Buffers} {B : def.Build} (room : Room c) (h : from ≤ c .variables) (apart : Apart from s (b .words)) (sh : Shows o c b B) where
-  pub begins1 : Shows o c b (scan (by φ (rule1 φ) s) from 0 B)
-  begins1 = begins φ (rule1 φ) (skipping.idle1 φ) (by1-less φ) s from o c b B room h apart sh
+  -- a turn at place v, and on to the next place r
+  turns : (s v r : ℕ) (o : Buffers) (c : Counts) (b : Buffers) (B : def.Build) → Room c → v < r → r ≤ c .variables → Others (suc v) r s (b .words) → Shows o c b (by φ rule s v (scan (by φ rule s) v 0 B))
+      → Shows o c b (scan (by φ rule s) r 0 B)
+  turns s v r o c b B room lt h others sh = passes s (v + 1) r o c b B room (omega arith) h (λ i p q. others i (omega arith) q) (scan-step (by φ rule s) v o c b B sh)
 
-  pub begins2 : Shows o c b (scan (by φ (rule2 φ) s) from 0 B)
-  begins2 = begins φ (rule2 φ) (skipping.idle2 φ) (by2-less φ) s from o c b B room h apart sh
+module _ (φ : Plan) {s r : ℕ} {o : Buffers} {c : Counts} {b : Buffers} (B : def.Build) (room : Room c) (h : r ≤ c .variables) where
+  module _ (others : Others 0 r s (b .words)) (sh : Shows o c b B) where
+    pub begins1 : Shows o c b (scan (by φ (rule1 φ) s) r 0 B)
+    begins1 = passes φ (rule1 φ) (skipping.idle1 φ) (by1-less φ) s 0 r o c b B room (omega arith) h others (scan-start (by φ (rule1 φ) s) o c b B sh)
 
-  pub begins3 : Shows o c b (scan (by φ (rule3 φ) s) from 0 B)
-  begins3 = begins φ (rule3 φ) (skipping.idle3 φ) (by3-less φ) s from o c b B room h apart sh
+    pub begins2 : Shows o c b (scan (by φ (rule2 φ) s) r 0 B)
+    begins2 = passes φ (rule2 φ) (skipping.idle2 φ) (by2-less φ) s 0 r o c b B room (omega arith) h others (scan-start (by φ (rule2 φ) s) o c b B sh)
+
+    pub begins3 : Shows o c b (scan (by φ (rule3 φ) s) r 0 B)
+    begins3 = passes φ (rule3 φ) (skipping.idle3 φ) (by3-less φ) s 0 r o c b B room (omega arith) h others (scan-start (by φ (rule3 φ) s) o c b B sh)
+
+  module _ {v : ℕ} (lt : v < r) (others : Others (suc v) r s (b .words)) where
+    pub turns1 : Shows o c b (by φ (rule1 φ) s v (scan (by φ (rule1 φ) s) v 0 B)) → Shows o c b (scan (by φ (rule1 φ) s) r 0 B)
+    turns1 = turns φ (rule1 φ) (skipping.idle1 φ) (by1-less φ) s v r o c b B room lt h others
+
+    pub turns2 : Shows o c b (by φ (rule2 φ) s v (scan (by φ (rule2 φ) s) v 0 B)) → Shows o c b (scan (by φ (rule2 φ) s) r 0 B)
+    turns2 = turns φ (rule2 φ) (skipping.idle2 φ) (by2-less φ) s v r o c b B room lt h others
+
+    pub turns3 : Shows o c b (by φ (rule3 φ) s v (scan (by φ (rule3 φ) s) v 0 B)) → Shows o c b (scan (by φ (rule3 φ) s) r 0 B)
+    turns3 = turns φ (rule3 φ) (skipping.idle3 φ) (by3-less φ) s v r o c b B room lt h others
 
 -- and those turns were due
-pub due-begins : (φ : Plan) (s from : ℕ) {o : Buffers} {c : Counts} {b : Buffers} (B : def.Build) → from ≤ c .variables → Shows o c b B → Due (by φ (rule1 φ) s) variables# from B
-due-begins φ s from B h sh u q = omega (arith, scan-less (by φ (rule1 φ) s) (by1-less φ s) u 0 B .variables, sh .low-variables)
+pub due-begins : (φ : Plan) (s r : ℕ) {o : Buffers} {c : Counts} {b : Buffers} (B : def.Build) → r ≤ c .variables → Shows o c b B → Due (by φ (rule1 φ) s) variables# r B
+due-begins φ s r B h sh u q = omega (arith, scan-less (by φ (rule1 φ) s) (by1-less φ s) u 0 B .variables, sh .low-variables)
+
+pub due-turns : (φ : Plan) (s v r : ℕ) {o : Buffers} {c : Counts} {b : Buffers} (B : def.Build) → r ≤ c .variables → Due (by φ (rule1 φ) s) variables# v B → v < variables# (scan (by φ (rule1 φ) s) v 0 B)
+    → Shows o c b (by φ (rule1 φ) s v (scan (by φ (rule1 φ) s) v 0 B)) → Due (by φ (rule1 φ) s) variables# r B
+due-turns φ s v r {o} {c} {b} B h due lt sh =
+    let f = by φ (rule1 φ) s in
+    due-upto f (by1-less φ s) (v + 1) r B (due-more f variables# v B due lt) (omega (arith, scan-step f v o c b B sh .low-variables))
+
+-- the next place of a state's variable, from the place v of one
+abbrev pub Follows : ℕ → ℕ → ℕ → List ℕ → ℕ → Type 0
+Follows v n s ws r = (v < r) × (r ≤ n) × Others (suc v) r s ws × (r < n → getD ws r 0 / 2048 ≡ s)
+
+pub follows : {c d : Counts} {xs ws : List ℕ} {s : ℕ} (v n r : ℕ) → Next c d xs ws → v < c .variables → getD xs v 0 / 2048 ≡ s → Follows v n (getD ws v 0 / 2048) ws r → Follows v n s ws r
+follows {c} {d} {xs} {ws} v n r next h own f = subst (λ (t : ℕ). Follows v n t ws r) (ap (λ (w : ℕ). w / 2048) (next .stay v h) ∙ own) f
 
 -- the states before place n have other parents
+strangers : (s n : ℕ) (o : Buffers) (c : Counts) (b : Buffers) (B : def.Build) → Room c → c .over ≡ false → n ≤ c .states → Parents n s (b .states) → Shows o c b B
+    → (j : ℕ) → j < n → getD (B .states) j norecord .parent ≡ s → ⊥
+strangers s n o c b B room off h parents sh j q e = let z = parents j q in omega (arith, sh .exact off .in-states (3 * j) (omega (arith, room .states)), numbers-at (B .states) j .0)
+
 pub push-begins : (φ : Plan) (s v r : ℕ) (p : class.Ask) (n : ℕ) (o : Buffers) (c : Counts) (b : Buffers) (B : def.Build) → Room c → c .over ≡ false → n ≤ c .states → Parents n s (b .states) → Shows o c b B
     → Shows o c b (scan (push φ s v r p) n 0 B)
-push-begins φ s v r p n o c b B room off h parents sh = rw (skipping.push-skips φ s v r p n B other) sh
-  where
-    other : (j : ℕ) → j < n → getD (B .states) j norecord .parent ≡ s → ⊥
-    other j q e = let z = parents j q in omega (arith, sh .exact off .in-states (3 * j) (omega (arith, room .states)), numbers-at (B .states) j .0)
+push-begins φ s v r p n o c b B room off h parents sh = rw (skipping.push-skips φ s v r p n B (strangers s n o c b B room off h parents sh)) sh
+
+-- all of them: phase 3 does nothing
+pub childless : {s n : ℕ} {ns : List Node} {c : Counts} {b : Buffers} → Room c → c .over ≡ false → c .states ≡ n → Parents n s (b .states) → Pushing (λ φ. phase3 φ s) ns c c b b
+childless {s} {n} {ns} {c} {b} room off e parents =
+    record {
+      stays = stays-refl c (b .words) room;
+      does = λ root o B sh.
+          rw (skipping.phase3-skips (plan ns root) s B (λ j q. strangers s n o c b B room off (omega arith) parents sh j (omega (arith, sh .exact off .states)))) sh;
+    }
 
 -- the ends of phases 2 and 3 and of a universal variable
 module _ (φ : Plan) (s : ℕ) {n : ℕ} {o : Buffers} {c d : Counts} {b b′ : Buffers} (B : def.Build) (off : c .over ≡ false) (sh : Shows o c b B) where
@@ -125,14 +184,6 @@ module _ (f : ℕ → def.Build → def.Build) (size : def.Build → ℕ) (k : �
       go : (t : Bool) → d .over ≡ t → Shows o d b R
       go true e = settles-over e
       go false e = let q = is e in subst (λ (C : def.Build). Shows o d b C) (st k due .0 (omega arith)) sh
-
--- one turn more was due
-pub due-more : (f : ℕ → def.Build → def.Build) (size : def.Build → ℕ) (k : ℕ) (B : def.Build) → Due f size k B → k < size (scan f k 0 B) → Due f size (k + 1) B
-due-more f size k B due h u q = go (ℕ-discrete u k)
-  where
-    go : Dec (u ≡ k) → u < size (scan f u 0 B)
-    go (yes e) = rw e h
-    go (no e) = due u (omega arith)
 
 -- the three phases of a state
 pub expand-does : (φ : Plan) (j t : ℕ) {c d e r : Counts} {st st₁ ws ws₁ ws₂ ws₃ : List ℕ} {cs cs₁ cs₂ cs₃ : List ℤ} → t ≡ suc j

@@ -4,10 +4,9 @@ use Prim.Native.Nat.{ℕ, _+_, _/_, _%_, _<_}
 use native.Mathlib.Omega.{arith}
 use native.Mathlib.Numerals.{add-one}
 use mathlib.Core.Path.{_≡_, refl, sym, ap, _∙_, subst}
-use mathlib.Core.Bool.{Bool, true, false, cond}
+use mathlib.Core.Bool.{false}
 use mathlib.Core.List.{List}
-use borrow.Author.Tests.{eq-eqb, ne-eqb}
-use lib.Dec.{eqb}
+use borrow.Author.Tests.{eq-eqb}
 use lib.IntN.{ℤ}
 use lib.ListN.{getD}
 use Rattle.logic.specs.Table.{Node}
@@ -28,41 +27,15 @@ use Rattle.encoding.specs.declared.counts.Counts.{Counts}
 use Rattle.encoding.proofs.Facts.{Parts}
 use Rattle.encoding.proofs.Bounds.{class-small}
 use Rattle.encoding.proofs.Words.{word-state, word-key, word-at}
-use Rattle.build.specs.Does.{Part, roleOf, Sees, TwoParts, Opens, Pushes, Asking, Making, Pushing}
+use Rattle.build.specs.Does.{Part, Sees, TwoParts, Opens, Pushes, Asking, Making, Pushing}
 use Rattle.build.proofs.Looping.{stays-refl, moves-refl}
 
--- `role` reads a word: t and k are its state and its key's number
-pub sees-in : (ns : List Node) (s v : ℕ) (ws : List ℕ) (t k : ℕ) (r : Class) → t ≡ getD ws v 0 / 2048 → k ≡ getD ws v 0 % 2048 → t ≡ s → Tame r × ((m : class.Key) → Small m → number m ≡ k → r ≡ classOf (classed ns (plus m)))
-    → Sees ns s v ws r
-unfolding roleOf
-sees-in ns s v ws t k r et ek e h =
-    record {
-      tame = h .0;
-      is = λ x small q.
-          let p : x .state ≡ s = sym (word-state x small) ∙ ap (λ (z : ℕ). z / 2048) q ∙ sym et ∙ e in
-          rw (eq-eqb (x .state) s p) (h .1 (x .key) small (sym (word-key x small) ∙ ap (λ (z : ℕ). z % 2048) q ∙ sym ek));
-    }
-
-pub sees-out : (ns : List Node) (s v : ℕ) (ws : List ℕ) (t : ℕ) → t ≡ getD ws v 0 / 2048 → (t ≡ s → ⊥) → Sees ns s v ws Leaf
-unfolding roleOf classOf Tame
-sees-out ns s v ws t et e =
-    record { tame = tt; is = λ x small q. rw (ne-eqb (x .state) s (λ z. e (et ∙ ap (λ (y : ℕ). y / 2048) (sym q) ∙ word-state x small ∙ z))) }
+-- `role` reads a word: k is its key's number
+pub sees-in : (ns : List Node) (v : ℕ) (ws : List ℕ) (k : ℕ) (r : Class) → k ≡ getD ws v 0 % 2048 → Tame r × ((m : class.Key) → Small m → number m ≡ k → r ≡ classOf (classed ns (plus m))) → Sees ns v ws r
+sees-in ns v ws k r e h = record { tame = h .0; is = λ x small q. h .1 (x .key) small (sym (word-key x small) ∙ ap (λ (z : ℕ). z % 2048) q ∙ sym e) }
 
 abbrev Smalls : class.Class → Type 0
 Smalls C = Parts (λ (l : class.Ask). Small (l .key)) C
-
-leaf-small : Smalls leaf
-unfolding Parts
-leaf-small = tt
-
-module _ (bs : List ℕ) (offset : ℕ) (sound : Sound bs offset) where
-  role-small : (s : ℕ) (x : Variable) → Smalls (roleOf (tableOf bs) s x)
-  unfolding roleOf
-  role-small s x = go (eqb (x .state) s)
-    where
-      go : (b : Bool) → Smalls (cond b (classed (tableOf bs) (plus (x .key))) leaf)
-      go true = class-small (tableOf bs) (sound-below bs offset sound) (sound .few) (sound-atoms bs offset sound) (x .key)
-      go false = leaf-small
 
 -- the class that a seen variant comes from
 unfoldable pub kind : Class → ℕ
@@ -144,16 +117,19 @@ from-universal (conjunctive p q) r l h e = let z : _≡_ {A = ℕ} 0 1 = cc in a
 from-universal (disjunctive p q) r l h e = let z : _≡_ {A = ℕ} 0 1 = cc in absurd (omega arith)
 from-universal (existential q p) r l h e = let z : _≡_ {A = ℕ} 0 1 = cc in absurd (omega arith)
 
--- the arms of the three rules: x is the class that was seen of the variable at place u
-module _ {bs : List ℕ} {offset : ℕ} (sound : Sound bs offset) {s u : ℕ} {c : Counts} {ws : List ℕ} (room : Room c) (off : c .over ≡ false) (low : u < c .variables) {x : Class} (sees : Sees (tableOf bs) s u ws x) where
+-- the arms of the three rules: x is the class that was seen of the variable at place u, one of state s
+module _ {bs : List ℕ} {offset : ℕ} (sound : Sound bs offset) {s u : ℕ} {c : Counts} {ws : List ℕ} (room : Room c) (off : c .over ≡ false) (low : u < c .variables) (own : getD ws u 0 / 2048 ≡ s) {x : Class}
+    (sees : Sees (tableOf bs) u ws x) where
   seen : (rule : ℕ → ℕ → class.Class → def.Build → def.Build) (root : ℕ) (o : Buffers) (st : List ℕ) (cs : List ℤ) (B : def.Build) → Shows o c (buffers st ws cs) B
       → (Q : def.Build → Type 0) → ((C : class.Class) → x ≡ classOf C → Smalls C → Q (rule s u C B)) → Q (by (plan (tableOf bs) root) rule s u B)
-  unfolding by role roleOf
+  unfolding by role
   seen rule root o st cs B sh Q f =
       let y = sh .exact off in
       let e = getD (B .variables) u novariable in
       let w : word e ≡ getD ws u 0 = sym (word-at (B .variables) ws (omega (arith, room .variables, y .variables)) (y .in-words) u (omega (arith, y .variables))) in
-      f (roleOf (tableOf bs) s e) (sees .is e (y .keys u) w) (role-small bs offset sound s e)
+      let p : e .state ≡ s = sym (word-state e (y .keys u)) ∙ ap (λ (z : ℕ). z / 2048) w ∙ own in
+      rw (eq-eqb (e .state) s p)
+      (f (classed (tableOf bs) (plus (e .key))) (sees .is e (y .keys u) w) (class-small (tableOf bs) (sound-below bs offset sound) (sound .few) (sound-atoms bs offset sound) (e .key)))
 
   module _ {r : Counts} {cs cs′ : List ℤ} {ws′ : List ℕ} where
     pub arm-conjunctive : {l m : Ask} → x ≡ Conjunctive l m → TwoParts conjunctive s (u + 1) l m c r ws ws′ cs cs′ → Asking (λ φ. by φ (rule1 φ) s u) (tableOf bs) c r ws ws′ cs cs′
@@ -232,7 +208,7 @@ module _ {bs : List ℕ} {offset : ℕ} (sound : Sound bs offset) {s u : ℕ} {c
         }
 
 -- the parts of what was seen can be asked for
-module _ {ns : List Node} {s u : ℕ} {ws : List ℕ} {x : Class} (sees : Sees ns s u ws x) where
+module _ {ns : List Node} {u : ℕ} {ws : List ℕ} {x : Class} (sees : Sees ns u ws x) where
   pub tame-conjunctive : {l m : Ask} → x ≡ Conjunctive l m → (l .key < 2048) × (m .key < 2048)
   unfolding Tame
   tame-conjunctive e = subst Tame e (sees .tame)

@@ -2,15 +2,14 @@
 -- code and its proofs look here. Assumes nothing.
 use Prim.Native.Nat.{ℕ, suc, _+_, _*_}
 use mathlib.Core.Path.{_≡_}
-use mathlib.Core.Bool.{false, cond}
+use mathlib.Core.Bool.{false}
 use mathlib.Core.List.{List, [], _∷_}
-use lib.Dec.{eqb}
 use lib.IntN.{ℤ, pos}
 use lib.ListN.{getD}
 use Rattle.ground.specs.Buffer.{cleared}
 use Rattle.logic.specs.Table.{Node}
 use Rattle.signed.specs.Signed as class
-use Rattle.signed.specs.Signed.{plus, leaf, signed, classed}
+use Rattle.signed.specs.Signed.{plus, signed, classed}
 use Rattle.signed.specs.Asking.{askOf, classOf, Small, Tame}
 use Rattle.signed.specs.declared.Ask.{Ask}
 use Rattle.signed.specs.declared.Class.{Class}
@@ -31,14 +30,10 @@ pub record Part (l : Ask) (p : class.Ask) : Type 0 where
   pub small : Small (p .key)
   pub is : l ≡ askOf p
 
--- the class of a variable, if it belongs to state s
-unfoldable pub roleOf : List Node → ℕ → Variable → class.Class
-roleOf ns s x = cond (eqb (x .state) s) (classed ns (plus (x .key))) leaf
-
--- r is the class of the variable whose word stands at place v, if it belongs to state s
-pub record Sees (ns : List Node) (s v : ℕ) (ws : List ℕ) (r : Class) : Type 0 where
+-- r is the class of the variable whose word stands at place v
+pub record Sees (ns : List Node) (v : ℕ) (ws : List ℕ) (r : Class) : Type 0 where
   pub tame : Tame r
-  pub is : (x : Variable) → Small (x .key) → word x ≡ getD ws v 0 → r ≡ classOf (roleOf ns s x)
+  pub is : (x : Variable) → Small (x .key) → word x ≡ getD ws v 0 → r ≡ classOf (classed ns (plus (x .key)))
 
 -- the counts and words after steps that make no state; and after steps whose new states have the parent s
 pub record Stays (c r : Counts) (ws ws′ : List ℕ) : Type 0 where

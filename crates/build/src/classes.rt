@@ -6,7 +6,8 @@ ghost use lib.ListN.{length};
 ghost use Rattle.signed.specs.Signed as class;
 ghost use Rattle.encoding.specs.Build as def;
 ghost use Rattle.encoding.specs.Limits.{maxStates, maxVariables, maxClauses};
-ghost use Rattle.encoding.specs.Shows.{Room, Apart, Owned, Low, Parents, buffers};
+ghost use Rattle.encoding.specs.Index.{Indexed};
+ghost use Rattle.encoding.specs.Shows.{Room, Low, Parents, buffers};
 ghost use Rattle.build.specs.Filled.{Long};
 ghost use Rattle.build.specs.Does.{TwoParts, Opens, Pushes};
 use clauses::three;
@@ -21,21 +22,23 @@ use signed::Ask;
 // "Conjunctive a: ask both parts, first part first; write (−a, l1), (−a, l2)."
 pub fn conjunctive(
     words: &mut [u32],
+    finder: &mut [u16],
+    own: &mut [u16],
     clauses: &mut [i16],
     c: Counts,
-    from: usize,
     s: usize,
     a: usize,
     l: Ask,
     m: Ask,
 ) -> Counts
     requires { ⌜ Room c × (s ≤ c .states) × (a ≤ maxVariables) × (l .key < 2048) × (m .key < 2048) ⌝ }
-    requires { ⌜ (from ≤ c .variables) × Apart from s (now words) ⌝ }
+    requires { ⌜ Indexed (c .variables) (now words) (now finder) (now own) ⌝ }
     requires { ⌜ (maxVariables ≤ length (now words)) × (3 * maxClauses ≤ length (now clauses)) ⌝ }
-    ensures { λ r. ⌜ TwoParts class.conjunctive s a l m c r (now (words .entry)) (now (words .exit)) (now (clauses .entry)) (now (clauses .exit)) ⌝ }
+    ensures { λ r. ⌜ TwoParts class.conjunctive s a l m c r (now (words .entry)) (now (words .exit)) (now (clauses .entry)) (now (clauses .exit))
+        × Indexed (r .variables) (now (words .exit)) (now (finder .exit)) (now (own .exit)) ⌝ }
 {
-    let x = ask(words, c, from, s, l.key);
-    let y = ask(words, x.counts, from, s, m.key);
+    let x = ask(words, finder, own, c, s, l.key);
+    let y = ask(words, finder, own, x.counts, s, m.key);
     let d = write(clauses, y.counts, two(a, x.variable, l.minus));
     write(clauses, d, two(a, y.variable, m.minus))
 }
@@ -43,21 +46,23 @@ pub fn conjunctive(
 // "Disjunctive b: ask both; write (−b, l1, l2)."
 pub fn disjunctive(
     words: &mut [u32],
+    finder: &mut [u16],
+    own: &mut [u16],
     clauses: &mut [i16],
     c: Counts,
-    from: usize,
     s: usize,
     a: usize,
     l: Ask,
     m: Ask,
 ) -> Counts
     requires { ⌜ Room c × (s ≤ c .states) × (a ≤ maxVariables) × (l .key < 2048) × (m .key < 2048) ⌝ }
-    requires { ⌜ (from ≤ c .variables) × Apart from s (now words) ⌝ }
+    requires { ⌜ Indexed (c .variables) (now words) (now finder) (now own) ⌝ }
     requires { ⌜ (maxVariables ≤ length (now words)) × (3 * maxClauses ≤ length (now clauses)) ⌝ }
-    ensures { λ r. ⌜ TwoParts class.disjunctive s a l m c r (now (words .entry)) (now (words .exit)) (now (clauses .entry)) (now (clauses .exit)) ⌝ }
+    ensures { λ r. ⌜ TwoParts class.disjunctive s a l m c r (now (words .entry)) (now (words .exit)) (now (clauses .entry)) (now (clauses .exit))
+        × Indexed (r .variables) (now (words .exit)) (now (finder .exit)) (now (own .exit)) ⌝ }
 {
-    let x = ask(words, c, from, s, l.key);
-    let y = ask(words, x.counts, from, s, m.key);
+    let x = ask(words, finder, own, c, s, l.key);
+    let y = ask(words, finder, own, x.counts, s, m.key);
     write(
         clauses,
         y.counts,
@@ -65,10 +70,12 @@ pub fn disjunctive(
     )
 }
 
-// "make the next state (parent, relation, p), ask it for the part, write (−p, l)." A new state has no variable, so that its asking looks nowhere.
+// "make the next state (parent, relation, p), ask it for the part, write (−p, l)."
 pub fn existential(
     states: &mut [u16],
     words: &mut [u32],
+    finder: &mut [u16],
+    own: &mut [u16],
     clauses: &mut [i16],
     c: Counts,
     s: usize,
@@ -77,17 +84,18 @@ pub fn existential(
     l: Ask,
 ) -> Counts
     requires { ⌜ Room c × (s ≤ c .states) × (a ≤ maxVariables) × (r < 16) × (l .key < 2048) ⌝ }
-    requires { ⌜ Owned c (now words) ⌝ }
+    requires { ⌜ Indexed (c .variables) (now words) (now finder) (now own) ⌝ }
     requires { ⌜ Long (now states) (now words) (now clauses) ⌝ }
     ensures { λ out. ⌜ Opens s a r l c out
         (buffers (now (states .entry)) (now (words .entry)) (now (clauses .entry)))
-        (buffers (now (states .exit)) (now (words .exit)) (now (clauses .exit))) ⌝ }
+        (buffers (now (states .exit)) (now (words .exit)) (now (clauses .exit)))
+        × Indexed (out .variables) (now (words .exit)) (now (finder .exit)) (now (own .exit)) ⌝ }
 {
     let d = make(states, c, s, r, a);
     if d.over {
         return d;
     }
-    let x = ask(words, d, d.variables, d.states, l.key);
+    let x = ask(words, finder, own, d, d.states, l.key);
     write(clauses, x.counts, two(a, x.variable, l.minus))
 }
 
@@ -96,6 +104,8 @@ pub fn existential(
 pub fn universal(
     states: &[u16],
     words: &mut [u32],
+    finder: &mut [u16],
+    own: &mut [u16],
     clauses: &mut [i16],
     c: Counts,
     before: Counts,
@@ -105,30 +115,33 @@ pub fn universal(
     l: Ask,
 ) -> Counts
     requires { ⌜ Room c × (a ≤ maxVariables) × (l .key < 2048) × (c .over ≡ false) ⌝ }
-    requires { ⌜ (before .states ≤ c .states) × (before .variables ≤ c .variables) × Owned before (now words) ⌝ }
+    requires { ⌜ before .states ≤ c .states ⌝ }
+    requires { ⌜ Indexed (c .variables) (now words) (now finder) (now own) ⌝ }
     requires { ⌜ Long (now states) (now words) (now clauses) ⌝ }
     requires { ⌜ Low (now states) × Parents (before .states) s (now states) ⌝ }
     ensures { λ out. ⌜ Pushes (λ φ v p. def.rule3 φ s v (class.universal r p)) a l c out
         (buffers (now (states .entry)) (now (words .entry)) (now (clauses .entry)))
-        (buffers (now (states .entry)) (now (words .exit)) (now (clauses .exit))) ⌝ }
+        (buffers (now (states .entry)) (now (words .exit)) (now (clauses .exit)))
+        × Indexed (out .variables) (now (words .exit)) (now (finder .exit)) (now (own .exit)) ⌝ }
 {
     let n = c.states;
     let mut d = c;
     let mut j = before.states;
     while j < n {
-        d = push(states, words, clauses, d, before.variables, s, a, r, l, j);
+        d = push(states, words, finder, own, clauses, d, s, a, r, l, j);
         j += 1;
     }
     d
 }
 
-// The state at place j, if it is a successor by that relation. None of its variables stands before place `from`.
+// The state at place j, if it is a successor by that relation.
 fn push(
     states: &[u16],
     words: &mut [u32],
+    finder: &mut [u16],
+    own: &mut [u16],
     clauses: &mut [i16],
     c: Counts,
-    from: usize,
     s: usize,
     a: usize,
     r: usize,
@@ -136,12 +149,13 @@ fn push(
     j: usize,
 ) -> Counts
     requires { ⌜ Room c × (a ≤ maxVariables) × (l .key < 2048) × (j < c .states) ⌝ }
-    requires { ⌜ Apart from (j + 1) (now words) ⌝ }
+    requires { ⌜ Indexed (c .variables) (now words) (now finder) (now own) ⌝ }
     requires { ⌜ Long (now states) (now words) (now clauses) ⌝ }
     requires { ⌜ Low (now states) ⌝ }
     ensures { λ out. ⌜ Pushes (λ φ v p. def.push φ s v r p j) a l c out
         (buffers (now (states .entry)) (now (words .entry)) (now (clauses .entry)))
-        (buffers (now (states .entry)) (now (words .exit)) (now (clauses .exit))) ⌝ }
+        (buffers (now (states .entry)) (now (words .exit)) (now (clauses .exit)))
+        × Indexed (out .variables) (now (words .exit)) (now (finder .exit)) (now (own .exit)) ⌝ }
 {
     if c.over {
         return c;
@@ -149,7 +163,7 @@ fn push(
     let d = record_at(states, j);
     if d.parent == s {
         if d.relation == r {
-            let x = ask(words, c, from, j + 1, l.key);
+            let x = ask(words, finder, own, c, j + 1, l.key);
             return write(
                 clauses,
                 x.counts,

@@ -1,4 +1,4 @@
-// The phases of one state. All its variables stand at places from `from` on, so that each phase begins there; a place of a later state costs one test.
+// The phases of one state. Each goes from one of its variables to the next: a place of another state costs nothing.
 ghost use mathlib.Core.Path.{_≡_};
 ghost use Prim.Native.Nat.{_+_, _*_, _≤_, _<_};
 ghost use lib.ListN.{length};
@@ -6,142 +6,194 @@ ghost use Rattle.book.specs.Rulebook.{tableOf};
 ghost use Rattle.book.specs.Told.{Sound};
 ghost use Rattle.encoding.specs.Build as def;
 ghost use Rattle.encoding.specs.Limits.{maxStates, maxVariables, maxClauses};
-ghost use Rattle.encoding.specs.Shows.{Room, Apart, Owned, Low, Parents, buffers};
+ghost use Rattle.encoding.specs.Index.{Indexed};
+ghost use Rattle.encoding.specs.Shows.{Room, Low, Parents, buffers};
 ghost use Rattle.build.specs.Filled.{Long};
 ghost use Rattle.build.specs.Does.{Making, Pushing, Settling, Expands};
 use crate::rules::rule1;
 use crate::rules::rule2;
 use crate::rules::rule3;
 use encoding::Counts;
+use encoding::first_of;
+use encoding::next_of;
 
-// "1. Its keys by variable number, newly added ones too." One turn for each place from `from` on, also for those that it adds.
+// "1. Its keys by variable number, newly added ones too." One turn for each variable of the state, also for those that it adds.
 fn phase1(
     book: &[u8],
     offset: usize,
     nodes: usize,
     words: &mut [u32],
+    finder: &mut [u16],
+    own: &mut [u16],
     clauses: &mut [i16],
     c: Counts,
-    from: usize,
     s: usize,
 ) -> Counts
     requires { ⌜ Sound (now book) offset × (nodes ≡ length (tableOf (now book))) ⌝ }
     requires { ⌜ Room c × (s ≤ c .states) ⌝ }
-    requires { ⌜ (from ≤ c .variables) × Apart from s (now words) ⌝ }
+    requires { ⌜ Indexed (c .variables) (now words) (now finder) (now own) ⌝ }
     requires { ⌜ (maxVariables ≤ length (now words)) × (3 * maxClauses ≤ length (now clauses)) ⌝ }
-    ensures { λ r. ⌜ Settling s (tableOf (now (book .entry))) c r (now (words .entry)) (now (words .exit)) (now (clauses .entry)) (now (clauses .exit)) ⌝ }
+    ensures { λ r. ⌜ Settling s (tableOf (now (book .entry))) c r (now (words .entry)) (now (words .exit)) (now (clauses .entry)) (now (clauses .exit))
+        × Indexed (r .variables) (now (words .exit)) (now (finder .exit)) (now (own .exit)) ⌝ }
 {
     let mut d = c;
-    let mut v = from;
+    let mut v = first_of(own, s, c.variables);
     while v < d.variables {
-        d = rule1(book, offset, nodes, words, clauses, d, from, s, v);
-        v += 1;
+        d = rule1(book, offset, nodes, words, finder, own, clauses, d, s, v);
+        v = next_of(own, v, d.variables);
     }
     d
 }
 
-// "2. Its existential variables p in number order". One turn for each place from `from` on that is there when it begins.
+// "2. Its existential variables p in number order". One turn for each variable of the state that is there when it
+// begins.
 fn phase2(
     book: &[u8],
     offset: usize,
     nodes: usize,
     states: &mut [u16],
     words: &mut [u32],
+    finder: &mut [u16],
+    own: &mut [u16],
     clauses: &mut [i16],
     c: Counts,
-    from: usize,
     s: usize,
 ) -> Counts
     requires { ⌜ Sound (now book) offset × (nodes ≡ length (tableOf (now book))) ⌝ }
     requires { ⌜ Room c × (s ≤ c .states) ⌝ }
-    requires { ⌜ (from ≤ c .variables) × Apart from s (now words) × Owned c (now words) ⌝ }
+    requires { ⌜ Indexed (c .variables) (now words) (now finder) (now own) ⌝ }
     requires { ⌜ Long (now states) (now words) (now clauses) ⌝ }
     ensures { λ r. ⌜ Making s (λ φ. def.phase2 φ s) (tableOf (now (book .entry))) c r
         (buffers (now (states .entry)) (now (words .entry)) (now (clauses .entry)))
-        (buffers (now (states .exit)) (now (words .exit)) (now (clauses .exit))) ⌝ }
+        (buffers (now (states .exit)) (now (words .exit)) (now (clauses .exit)))
+        × Indexed (r .variables) (now (words .exit)) (now (finder .exit)) (now (own .exit)) ⌝ }
 {
     if c.over {
         return c;
     }
     let n = c.variables;
     let mut d = c;
-    let mut v = from;
+    let mut v = first_of(own, s, n);
     while v < n {
-        d = rule2(book, offset, nodes, states, words, clauses, d, s, v);
-        v += 1;
+        d = rule2(
+            book,
+            offset,
+            nodes,
+            states,
+            words,
+            finder,
+            own,
+            clauses,
+            d,
+            s,
+            v,
+        );
+        v = next_of(own, v, n);
     }
     d
 }
 
-// "3. Its universal variables n in number order". `before` has the counts before phase 2. One turn for each place from `from` on that is there when it
-// begins.
+// "3. Its universal variables n in number order". `before` has the counts before phase 2. One turn for each variable of the state
+// that is there when it begins; none if phase 2 made no state, for then it has no successor.
 fn phase3(
     book: &[u8],
     offset: usize,
     nodes: usize,
     states: &[u16],
     words: &mut [u32],
+    finder: &mut [u16],
+    own: &mut [u16],
     clauses: &mut [i16],
     c: Counts,
     before: Counts,
-    from: usize,
     s: usize,
 ) -> Counts
     requires { ⌜ Sound (now book) offset × (nodes ≡ length (tableOf (now book))) ⌝ }
-    requires { ⌜ Room c × (from ≤ c .variables) × Apart from s (now words) ⌝ }
-    requires { ⌜ (before .states ≤ c .states) × (before .variables ≤ c .variables) × Owned before (now words) ⌝ }
+    requires { ⌜ Room c × (s ≤ c .states) × (before .states ≤ c .states) ⌝ }
+    requires { ⌜ Indexed (c .variables) (now words) (now finder) (now own) ⌝ }
     requires { ⌜ Long (now states) (now words) (now clauses) ⌝ }
     requires { ⌜ Low (now states) × Parents (before .states) s (now states) ⌝ }
     ensures { λ r. ⌜ Pushing (λ φ. def.phase3 φ s) (tableOf (now (book .entry))) c r
         (buffers (now (states .entry)) (now (words .entry)) (now (clauses .entry)))
-        (buffers (now (states .entry)) (now (words .exit)) (now (clauses .exit))) ⌝ }
+        (buffers (now (states .entry)) (now (words .exit)) (now (clauses .exit)))
+        × Indexed (r .variables) (now (words .exit)) (now (finder .exit)) (now (own .exit)) ⌝ }
 {
     if c.over {
         return c;
     }
+    if c.states == before.states {
+        return c;
+    }
     let n = c.variables;
     let mut d = c;
-    let mut v = from;
+    let mut v = first_of(own, s, n);
     while v < n {
-        d = rule3(book, offset, nodes, states, words, clauses, d, before, s, v);
-        v += 1;
+        d = rule3(
+            book,
+            offset,
+            nodes,
+            states,
+            words,
+            finder,
+            own,
+            clauses,
+            d,
+            before,
+            s,
+            v,
+        );
+        v = next_of(own, v, n);
     }
     d
 }
 
-// The state at place j, whose variables stand from place `from` on.
+// The state at place j.
 pub fn expand(
     book: &[u8],
     offset: usize,
     nodes: usize,
     states: &mut [u16],
     words: &mut [u32],
+    finder: &mut [u16],
+    own: &mut [u16],
     clauses: &mut [i16],
     c: Counts,
-    from: usize,
     j: usize,
 ) -> Counts
     requires { ⌜ Sound (now book) offset × (nodes ≡ length (tableOf (now book))) ⌝ }
     requires { ⌜ Room c × (j < c .states) ⌝ }
-    requires { ⌜ (from ≤ c .variables) × Apart from (j + 1) (now words) × Owned c (now words) ⌝ }
+    requires { ⌜ Indexed (c .variables) (now words) (now finder) (now own) ⌝ }
     requires { ⌜ Long (now states) (now words) (now clauses) ⌝ }
     requires { ⌜ Low (now states) × Parents (c .states) (j + 1) (now states) ⌝ }
     ensures { λ r. ⌜ Expands j (tableOf (now (book .entry))) c r
         (buffers (now (states .entry)) (now (words .entry)) (now (clauses .entry)))
-        (buffers (now (states .exit)) (now (words .exit)) (now (clauses .exit))) ⌝ }
+        (buffers (now (states .exit)) (now (words .exit)) (now (clauses .exit)))
+        × Indexed (r .variables) (now (words .exit)) (now (finder .exit)) (now (own .exit)) ⌝ }
 {
-    let d = phase1(book, offset, nodes, words, clauses, c, from, j + 1);
-    let e = phase2(book, offset, nodes, states, words, clauses, d, from, j + 1);
+    let d = phase1(book, offset, nodes, words, finder, own, clauses, c, j + 1);
+    let e = phase2(
+        book,
+        offset,
+        nodes,
+        states,
+        words,
+        finder,
+        own,
+        clauses,
+        d,
+        j + 1,
+    );
     phase3(
         book,
         offset,
         nodes,
         states,
         words,
+        finder,
+        own,
         clauses,
         e,
         d,
-        from,
         j + 1,
     )
 }

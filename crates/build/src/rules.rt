@@ -1,12 +1,13 @@
-// The three rules at one place v: what a phase does to the variable that stands there, if it is one of state s.
+// The three rules at one place v: what a phase does to the variable of state s that stands there.
 ghost use mathlib.Core.Path.{_≡_};
-ghost use Prim.Native.Nat.{_*_, _≤_, _<_};
-ghost use lib.ListN.{length};
+ghost use Prim.Native.Nat.{_*_, _/_, _≤_, _<_};
+ghost use lib.ListN.{length, getD};
 ghost use Rattle.book.specs.Rulebook.{tableOf};
 ghost use Rattle.book.specs.Told.{Sound};
 ghost use Rattle.encoding.specs.Build as def;
 ghost use Rattle.encoding.specs.Limits.{maxStates, maxVariables, maxClauses};
-ghost use Rattle.encoding.specs.Shows.{Room, Apart, Owned, Low, Parents, buffers};
+ghost use Rattle.encoding.specs.Index.{Indexed};
+ghost use Rattle.encoding.specs.Shows.{Room, Low, Parents, buffers};
 ghost use Rattle.build.specs.Filled.{Long};
 ghost use Rattle.build.specs.Does.{Sees, Asking, Making, Pushing};
 use crate::classes::conjunctive;
@@ -15,21 +16,16 @@ use crate::classes::existential;
 use crate::classes::universal;
 use encoding::Counts;
 use encoding::key_at;
-use encoding::state_at;
 use signed::Class;
 use signed::classify;
 
-// The class of the variable at place v, if it is one of state s; a leaf otherwise.
-fn role(book: &[u8], offset: usize, nodes: usize, words: &[u32], s: usize, v: usize) -> Class
+// The class of the variable at place v.
+fn role(book: &[u8], offset: usize, nodes: usize, words: &[u32], v: usize) -> Class
     requires { ⌜ Sound (now book) offset × (nodes ≡ length (tableOf (now book))) ⌝ }
     requires { ⌜ v < length (now words) ⌝ }
-    ensures { λ r. ⌜ Sees (tableOf (now (book .entry))) s v (now (words .entry)) r ⌝ }
+    ensures { λ r. ⌜ Sees (tableOf (now (book .entry))) v (now (words .entry)) r ⌝ }
 {
-    if state_at(words, v) == s {
-        classify(book, offset, nodes, key_at(words, v))
-    } else {
-        Class::Leaf
-    }
+    classify(book, offset, nodes, key_at(words, v))
 }
 
 // Phase 1: a conjunctive or disjunctive variable.
@@ -38,25 +34,27 @@ pub fn rule1(
     offset: usize,
     nodes: usize,
     words: &mut [u32],
+    finder: &mut [u16],
+    own: &mut [u16],
     clauses: &mut [i16],
     c: Counts,
-    from: usize,
     s: usize,
     v: usize,
 ) -> Counts
     requires { ⌜ Sound (now book) offset × (nodes ≡ length (tableOf (now book))) ⌝ }
     requires { ⌜ Room c × (s ≤ c .states) × (v < c .variables) ⌝ }
-    requires { ⌜ (from ≤ c .variables) × Apart from s (now words) ⌝ }
+    requires { ⌜ (getD (now words) v 0 / 2048 ≡ s) × Indexed (c .variables) (now words) (now finder) (now own) ⌝ }
     requires { ⌜ (maxVariables ≤ length (now words)) × (3 * maxClauses ≤ length (now clauses)) ⌝ }
-    ensures { λ r. ⌜ Asking (λ φ. def.by φ (def.rule1 φ) s v) (tableOf (now (book .entry))) c r (now (words .entry)) (now (words .exit)) (now (clauses .entry)) (now (clauses .exit)) ⌝ }
+    ensures { λ r. ⌜ Asking (λ φ. def.by φ (def.rule1 φ) s v) (tableOf (now (book .entry))) c r (now (words .entry)) (now (words .exit)) (now (clauses .entry)) (now (clauses .exit))
+        × Indexed (r .variables) (now (words .exit)) (now (finder .exit)) (now (own .exit)) ⌝ }
 {
     if c.over {
         return c;
     }
-    let class = role(book, offset, nodes, words, s, v);
+    let class = role(book, offset, nodes, words, v);
     match class {
-        Class::Conjunctive(l, m) => conjunctive(words, clauses, c, from, s, v + 1, l, m),
-        Class::Disjunctive(l, m) => disjunctive(words, clauses, c, from, s, v + 1, l, m),
+        Class::Conjunctive(l, m) => conjunctive(words, finder, own, clauses, c, s, v + 1, l, m),
+        Class::Disjunctive(l, m) => disjunctive(words, finder, own, clauses, c, s, v + 1, l, m),
         Class::Leaf => c,
         Class::Existential(_, _) => c,
         Class::Universal(_, _) => c,
@@ -70,6 +68,8 @@ pub fn rule2(
     nodes: usize,
     states: &mut [u16],
     words: &mut [u32],
+    finder: &mut [u16],
+    own: &mut [u16],
     clauses: &mut [i16],
     c: Counts,
     s: usize,
@@ -77,18 +77,30 @@ pub fn rule2(
 ) -> Counts
     requires { ⌜ Sound (now book) offset × (nodes ≡ length (tableOf (now book))) ⌝ }
     requires { ⌜ Room c × (s ≤ c .states) × (v < c .variables) ⌝ }
-    requires { ⌜ Owned c (now words) ⌝ }
+    requires { ⌜ (getD (now words) v 0 / 2048 ≡ s) × Indexed (c .variables) (now words) (now finder) (now own) ⌝ }
     requires { ⌜ Long (now states) (now words) (now clauses) ⌝ }
     ensures { λ r. ⌜ Making s (λ φ. def.by φ (def.rule2 φ) s v) (tableOf (now (book .entry))) c r
         (buffers (now (states .entry)) (now (words .entry)) (now (clauses .entry)))
-        (buffers (now (states .exit)) (now (words .exit)) (now (clauses .exit))) ⌝ }
+        (buffers (now (states .exit)) (now (words .exit)) (now (clauses .exit)))
+        × Indexed (r .variables) (now (words .exit)) (now (finder .exit)) (now (own .exit)) ⌝ }
 {
     if c.over {
         return c;
     }
-    let class = role(book, offset, nodes, words, s, v);
+    let class = role(book, offset, nodes, words, v);
     match class {
-        Class::Existential(r, l) => existential(states, words, clauses, c, s, v + 1, r, l),
+        Class::Existential(r, l) => existential(
+            states,
+            words,
+            finder,
+            own,
+            clauses,
+            c,
+            s,
+            v + 1,
+            r,
+            l,
+        ),
         Class::Leaf => c,
         Class::Conjunctive(_, _) => c,
         Class::Disjunctive(_, _) => c,
@@ -103,6 +115,8 @@ pub fn rule3(
     nodes: usize,
     states: &[u16],
     words: &mut [u32],
+    finder: &mut [u16],
+    own: &mut [u16],
     clauses: &mut [i16],
     c: Counts,
     before: Counts,
@@ -110,19 +124,33 @@ pub fn rule3(
     v: usize,
 ) -> Counts
     requires { ⌜ Sound (now book) offset × (nodes ≡ length (tableOf (now book))) ⌝ }
-    requires { ⌜ Room c × (v < c .variables) × (before .states ≤ c .states) × (before .variables ≤ c .variables) × Owned before (now words) ⌝ }
+    requires { ⌜ Room c × (v < c .variables) × (before .states ≤ c .states) ⌝ }
+    requires { ⌜ (getD (now words) v 0 / 2048 ≡ s) × Indexed (c .variables) (now words) (now finder) (now own) ⌝ }
     requires { ⌜ Long (now states) (now words) (now clauses) ⌝ }
     requires { ⌜ Low (now states) × Parents (before .states) s (now states) ⌝ }
     ensures { λ r. ⌜ Pushing (λ φ. def.by φ (def.rule3 φ) s v) (tableOf (now (book .entry))) c r
         (buffers (now (states .entry)) (now (words .entry)) (now (clauses .entry)))
-        (buffers (now (states .entry)) (now (words .exit)) (now (clauses .exit))) ⌝ }
+        (buffers (now (states .entry)) (now (words .exit)) (now (clauses .exit)))
+        × Indexed (r .variables) (now (words .exit)) (now (finder .exit)) (now (own .exit)) ⌝ }
 {
     if c.over {
         return c;
     }
-    let class = role(book, offset, nodes, words, s, v);
+    let class = role(book, offset, nodes, words, v);
     match class {
-        Class::Universal(r, l) => universal(states, words, clauses, c, before, s, v + 1, r, l),
+        Class::Universal(r, l) => universal(
+            states,
+            words,
+            finder,
+            own,
+            clauses,
+            c,
+            before,
+            s,
+            v + 1,
+            r,
+            l,
+        ),
         Class::Leaf => c,
         Class::Conjunctive(_, _) => c,
         Class::Disjunctive(_, _) => c,

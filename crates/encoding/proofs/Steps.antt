@@ -1,27 +1,27 @@
 -- One asking, one clause, one state: what the code does is what the definition does. Once over a limit the code does nothing, and the definition's
 -- build stays over. Assumes nothing.
-use Prim.Native.Nat.{ℕ, zero, suc, _+_, _*_, _/_, _≤_, _<_}
+use Prim.Native.Nat.{ℕ, zero, suc, _+_, _*_, _≤_, _<_}
 use native.Mathlib.Omega.{arith}
-use native.Mathlib.Decide.{ℕ-discrete, decLt}
+use native.Mathlib.Decide.{ℕ-discrete}
 use mathlib.Core.Path.{_≡_, refl, sym, ap, _∙_, subst}
 use mathlib.Core.Logic.{inl, inr}
 use mathlib.Core.Bool.{Bool, true, false}
 use mathlib.Core.List.{List, [], _∷_, _++_, map}
 use lib.IntN.{ℤ, pos}
 use lib.ListN.{length, getD, set, length-map}
-use lib.Seq.{getD-set-same, getD-set-other}
+use lib.Seq.{getD-set-other}
 use Rattle.ground.proofs.Tests.{true-false}
 use Rattle.ground.proofs.Lists.{length-snoc, map-snoc}
 use Rattle.ground.proofs.Buffers.{Laid, laid-push, kept-set}
 use Rattle.signed.specs.Signed.{number, Ask}
 use Rattle.signed.specs.Asking.{Small}
-use Rattle.signed.proofs.Keys.{number-low}
 use Rattle.clauses.specs.Clause.{numbers, stored}
 use Rattle.clauses.proofs.Numbers.{threes-snoc, numbers-snoc, length-numbers}
 use Rattle.encoding.specs.Build as def
 use Rattle.encoding.specs.Build.{Variable, novariable, place, insert, ask, write, make}
 use Rattle.encoding.specs.Limits.{maxStates, maxVariables, maxClauses, oversized, word, stateNumbers}
-use Rattle.encoding.specs.Shows.{withState, withVariable, withClause, goneOver, Room, Buffers, buffers, Exact, Shows, Apart, Under, Owned, Next, Found, Asks, Writes, Parents, Made, Makes}
+use Rattle.encoding.specs.Index.{Found}
+use Rattle.encoding.specs.Shows.{withState, withVariable, withClause, goneOver, Room, Buffers, buffers, Exact, Shows, Next, Asks, Writes, Parents, Made, Makes}
 use Rattle.encoding.specs.declared.counts.Counts.{Counts}
 use Rattle.encoding.proofs.Variables.{variable, insert-in, insert-out, place-is, place-insert}
 use Rattle.encoding.proofs.Totals.{Less, ask-less, write-less, make-less, big-oversized, oversized-grows, fits-oversized}
@@ -72,7 +72,7 @@ room-over c d e r =
 
 -- steps in a row
 pub next-refl : (c : Counts) (ws : List ℕ) → Room c → Next c c ws ws
-next-refl c ws room = record { room = room; sticky = λ q. q; states = omega arith; variables = omega arith; stay = λ i h. refl; owned = λ h. h }
+next-refl c ws room = record { room = room; sticky = λ q. q; states = omega arith; variables = omega arith; stay = λ i h. refl }
 
 pub next-then : {c d r : Counts} {xs ys zs : List ℕ} → Next c d xs ys → Next d r ys zs → Next c r xs zs
 next-then a b =
@@ -82,13 +82,12 @@ next-then a b =
       states = omega (arith, a .states, b .states);
       variables = omega (arith, a .variables, b .variables);
       stay = λ i h. b .stay i (omega (arith, a .variables)) ∙ a .stay i h;
-      owned = λ h. b .owned (a .owned h);
     }
 
 -- a step that leaves the words alone and takes nothing away
 pub next-counts : (c r : Counts) (ws : List ℕ) → Room r → (r .over ≡ false → c .over ≡ false) → c .states ≤ r .states → r .variables ≡ c .variables → Next c r ws ws
 next-counts c r ws room st up e =
-    record { room = room; sticky = st; states = up; variables = omega arith; stay = λ i h. refl; owned = λ h i j. let z = h i (omega arith) in omega arith }
+    record { room = room; sticky = st; states = up; variables = omega arith; stay = λ i h. refl }
 
 pub write-next : {c r : Counts} {k cs cs′ : List ℤ} → Writes c k cs cs′ r → (ws : List ℕ) → Next c r ws ws
 write-next {c} {r} w ws = next-counts c r ws (w .room) (w .sticky) (omega (arith, w .states)) (w .variables)
@@ -96,28 +95,14 @@ write-next {c} {r} w ws = next-counts c r ws (w .room) (w .sticky) (omega (arith
 pub make-next : {c r : Counts} {s q p : ℕ} {st st′ : List ℕ} → Makes c s q p st st′ r → (ws : List ℕ) → Next c r ws ws
 make-next {c} {r} m ws = next-counts c r ws (m .room) (m .sticky) (m .states) (m .variables)
 
--- the words before a place keep their states
-pub under-stays : {c r : Counts} {ws ws′ : List ℕ} (n s : ℕ) → n ≤ c .variables → Next c r ws ws′ → Under n s ws → Under n s ws′
-under-stays n s h x u i j = rw (x .stay i (omega arith)) (u i j)
-
-pub apart-stays : {c r : Counts} {ws ws′ : List ℕ} (n s : ℕ) → n ≤ c .variables → Next c r ws ws′ → Apart n s ws → Apart n s ws′
-apart-stays n s h x u i j = rw (x .stay i (omega arith)) (u i j)
-
-pub under-apart : (n s t : ℕ) (ws : List ℕ) → s ≤ t → Under n s ws → Apart n t ws
-under-apart n s t ws h u i j e = let z = u i j in omega arith
-
 -- the search's end is the key's place
-module _ (s : ℕ) (l : Ask) (xs : List Variable) (ws : List ℕ) (from n w r : ℕ) (keys : (i : ℕ) → Small (getD xs i novariable .key)) (small : Small (l .key)) (is : w ≡ s * 2048 + number (l .key))
-    (many : n ≡ length xs) (few : length xs ≤ maxVariables) (laid : Laid 0 maxVariables (map word xs) ws) (apart : Apart from s ws) (f : Found ws from n w r) where
+module _ (s : ℕ) (l : Ask) (xs : List Variable) (ws : List ℕ) (n w r : ℕ) (keys : (i : ℕ) → Small (getD xs i novariable .key)) (small : Small (l .key)) (is : w ≡ s * 2048 + number (l .key))
+    (many : n ≡ length xs) (few : length xs ≤ maxVariables) (laid : Laid 0 maxVariables (map word xs) ws) (f : Found ws n w r) where
   placed : place s (l .key) xs ≡ r
   placed =
       place-is s (l .key) xs r (omega (arith, f .upto))
-      (λ j h t. let e : getD ws j 0 ≡ w = word-at xs ws few laid j (omega (arith, f .upto)) ∙ same-word s (l .key) (getD xs j novariable) t ∙ sym is in missed j h e (decLt j from))
+      (λ j h t. f .before j h (word-at xs ws few laid j (omega (arith, f .upto)) ∙ same-word s (l .key) (getD xs j novariable) t ∙ sym is))
       (λ h. word-same s (l .key) (getD xs r novariable) small (keys r) (sym (word-at xs ws few laid r h) ∙ f .here (omega arith) ∙ is))
-    where
-      missed : (j : ℕ) → j < r → getD ws j 0 ≡ w → Dec (j < from) → ⊥
-      missed j h e (yes p) = apart j p (let q = number-low (l .key) small in omega arith)
-      missed j h e (no p) = f .before j (omega arith) h e
 
 keys-snoc : (xs : List Variable) (x : Variable) → Small (x .key) → ((i : ℕ) → Small (getD xs i novariable .key)) → (i : ℕ) → Small (getD (xs ++ x ∷ []) i novariable .key)
 keys-snoc [] x h k zero = h
@@ -126,7 +111,7 @@ keys-snoc (y ∷ xs) x h k zero = k 0
 keys-snoc (y ∷ xs) x h k (suc i) = keys-snoc xs x h (λ j. k (suc j)) i
 
 -- asking
-module _ (c : Counts) (from s key : ℕ) (ws : List ℕ) (room : Room c) (apart : Apart from s ws) where
+module _ (c : Counts) (s key : ℕ) (ws : List ℕ) (room : Room c) where
   pub ask-over : c .over ≡ true → Asks c s key ws ws (record { variable = 0; counts = c })
   ask-over t =
       record {
@@ -137,11 +122,11 @@ module _ (c : Counts) (from s key : ℕ) (ws : List ℕ) (room : Room c) (apart 
         named = λ o st cs B l small e sh q. both-flags (c .over) t q;
       }
 
-  module _ (off : c .over ≡ false) (n w r : ℕ) (isn : n ≡ c .variables) (isw : w ≡ s * 2048 + key) (f : Found ws from n w r) where
+  module _ (off : c .over ≡ false) (n w r : ℕ) (isn : n ≡ c .variables) (isw : w ≡ s * 2048 + key) (f : Found ws n w r) where
     at : (o : Buffers) (st : List ℕ) (cs : List ℤ) (B : def.Build) (l : Ask) → Small (l .key) → number (l .key) ≡ key → Shows o c (buffers st ws cs) B → place s (l .key) (B .variables) ≡ r
     at o st cs B l small e sh =
         let x = sh .exact off in
-        placed s l (B .variables) ws from n w r (x .keys) small (isw ∙ ap (λ (k : ℕ). s * 2048 + k) (sym e)) (isn ∙ x .variables) (omega (arith, x .variables, room .variables)) (x .in-words) apart f
+        placed s l (B .variables) ws n w r (x .keys) small (isw ∙ ap (λ (k : ℕ). s * 2048 + k) (sym e)) (isn ∙ x .variables) (omega (arith, x .variables, room .variables)) (x .in-words) f
 
     pub ask-old : r < n → Asks c s key ws ws (record { variable = r + 1; counts = c })
     unfolding ask
@@ -176,9 +161,9 @@ module _ (c : Counts) (from s key : ℕ) (ws : List ℕ) (room : Room c) (apart 
             named = λ o st cs B l small e sh p. both-flags (d .over) (ap (λ (z : Counts). z .over) q) p;
           }
 
-      pub ask-new : (d : Counts) → d ≡ withVariable c → (n ≡ maxVariables → ⊥) → maxVariables ≤ length ws → s ≤ c .states → key < 2048 → Asks c s key ws (set ws n w) (record { variable = n + 1; counts = d })
+      pub ask-new : (d : Counts) → d ≡ withVariable c → (n ≡ maxVariables → ⊥) → maxVariables ≤ length ws → Asks c s key ws (set ws n w) (record { variable = n + 1; counts = d })
       unfolding ask
-      ask-new d q some long made low =
+      ask-new d q some long =
           let qs = ap (λ (z : Counts). z .states) q in
           let qv = ap (λ (z : Counts). z .variables) q in
           let qc = ap (λ (z : Counts). z .clauses) q in
@@ -190,7 +175,6 @@ module _ (c : Counts) (from s key : ℕ) (ws : List ℕ) (room : Room c) (apart 
               states = omega arith;
               variables = omega arith;
               stay = λ i h. getD-set-other ws n i w 0 (λ e. omega arith);
-              owned = λ h i j. one-more i j h (ℕ-discrete i n) qs qv;
             };
             variable = omega (arith, room .variables);
             same = qs;
@@ -220,10 +204,6 @@ module _ (c : Counts) (from s key : ℕ) (ws : List ℕ) (room : Room c) (apart 
                 });
             named = λ o st cs B l small e sh p. let h = at o st cs B l small e sh in rw (place-insert s (l .key) (B .variables)) (omega (arith, f .upto));
           }
-        where
-          one-more : (i : ℕ) → i < d .variables → Owned c ws → Dec (i ≡ n) → d .states ≡ c .states → d .variables ≡ c .variables + 1 → getD (set ws n w) i 0 / 2048 < d .states + 1
-          one-more i j h (yes e) qs qv = rw (e, getD-set-same ws n w 0 (omega (arith, room .variables))) (omega arith)
-          one-more i j h (no e) qs qv = rw (getD-set-other ws n i w 0 e) (let z = h i (omega arith) in omega arith)
 
 -- writing
 module _ (c : Counts) (clause cs : List ℤ) (room : Room c) where

@@ -1,6 +1,6 @@
 -- What the steps of a build promise one another: how counts and lent buffers show a build of the definition (document 01, "The build", "Answers by
 -- number"). Only the code and its proofs look here; what a reader of 01 looks for stands in Build and Limits. Assumes nothing.
-use Prim.Native.Nat.{ℕ, suc, _+_, _*_, _/_, _≤_, _<_}
+use Prim.Native.Nat.{ℕ, suc, _+_, _*_, _≤_, _<_}
 use mathlib.Core.Path.{_≡_}
 use mathlib.Core.Bool.{true, false}
 use mathlib.Core.List.{List}
@@ -78,18 +78,6 @@ pub record Shows (o : Buffers) (c : Counts) (b : Buffers) (B : def.Build) : Type
 abbrev pub Same : ℕ → List ℕ → List ℕ → Type 0
 Same n xs ys = (i : ℕ) → i < n → getD ys i 0 ≡ getD xs i 0
 
--- no word before place n belongs to state s
-abbrev pub Apart : ℕ → ℕ → List ℕ → Type 0
-Apart n s ws = (i : ℕ) → i < n → getD ws i 0 / 2048 ≡ s → ⊥
-
--- every word before place n belongs to a state below s
-abbrev pub Under : ℕ → ℕ → List ℕ → Type 0
-Under n s ws = (i : ℕ) → i < n → getD ws i 0 / 2048 < s
-
--- each variable belongs to a state that was made
-abbrev pub Owned : Counts → List ℕ → Type 0
-Owned c ws = Under (c .variables) (c .states + 1) ws
-
 -- the counts and words after some steps
 pub record Next (c r : Counts) (ws ws′ : List ℕ) : Type 0 where
   pub room : Room r
@@ -97,13 +85,6 @@ pub record Next (c r : Counts) (ws ws′ : List ℕ) : Type 0 where
   pub states : c .states ≤ r .states
   pub variables : c .variables ≤ r .variables
   pub stay : Same (c .variables) ws ws′
-  pub owned : Owned c ws → Owned r ws′
-
--- the first place from `from` on, before n, that holds the word, or n
-pub record Found (ws : List ℕ) (from n word r : ℕ) : Type 0 where
-  pub upto : r ≤ n
-  pub before : (k : ℕ) → from ≤ k → k < r → getD ws k 0 ≡ word → ⊥
-  pub here : r < n → getD ws r 0 ≡ word
 
 -- an asking: whatever build is shown, and whatever stands in the other buffers, what is shown afterwards is that build's asking
 pub record Asks (c : Counts) (state key : ℕ) (ws ws′ : List ℕ) (r : Asked) : Type 0 where

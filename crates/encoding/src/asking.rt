@@ -1,11 +1,16 @@
 // "To ask a state for a signed formula": the words, one for each variable.
 ghost use mathlib.Core.Path.{_≡_};
-ghost use Prim.Native.Nat.{ℕ, _*_, _/_, _%_, _≤_, _<_};
+ghost use Prim.Native.Nat.{_%_, _≤_, _<_};
 ghost use lib.ListN.{length, getD};
 ghost use Rattle.encoding.specs.Limits.{maxVariables};
-ghost use Rattle.encoding.specs.Shows.{Room, Apart, Found, Asks};
+ghost use Rattle.encoding.specs.Shows.{Room, Asks};
+ghost use Rattle.encoding.specs.Index.{Indexed};
 use crate::counts::Build;
 use crate::counts::Counts;
+use crate::finding::chain;
+use crate::finding::enter_chain;
+use crate::finding::find;
+use crate::owning::enter_own;
 
 // One above the largest key.
 const KEYS: usize = 2048;
@@ -16,14 +21,6 @@ pub struct Asked {
     pub counts: Counts,
 }
 
-// The state of the variable at place v.
-pub fn state_at(words: &[u32], v: usize) -> usize
-    requires { ⌜ v < length (now words) ⌝ }
-    ensures { λ r. ⌜ r ≡ getD (now (words .entry)) v 0 / 2048 ⌝ }
-{
-    words[v] as usize / KEYS
-}
-
 // The key of the variable at place v, by its number.
 pub fn key_at(words: &[u32], v: usize) -> usize
     requires { ⌜ v < length (now words) ⌝ }
@@ -32,26 +29,18 @@ pub fn key_at(words: &[u32], v: usize) -> usize
     words[v] as usize % KEYS
 }
 
-// The first place from `from` on, and before n, that holds the word; n if there is none. Passes over each of these places once.
-fn find(words: &[u32], from: usize, n: usize, word: u32) -> usize
-    requires { ⌜ n ≤ length (now words) ⌝ }
-    ensures { λ r. ⌜ Found (now (words .entry)) from n word r ⌝ }
-{
-    let mut i = from;
-    while i < n {
-        if words[i] == word {
-            return i;
-        }
-        i += 1;
-    }
-    n
-}
-
-// Asks the state for a key. None of its variables stands before place `from`, so it looks from there on.
-pub fn ask(words: &mut [u32], c: Counts, from: usize, state: usize, key: usize) -> Asked
+// Asks the state for a key. The word is sought along its chain.
+pub fn ask(
+    words: &mut [u32],
+    finder: &mut [u16],
+    own: &mut [u16],
+    c: Counts,
+    state: usize,
+    key: usize,
+) -> Asked
     requires { ⌜ Room c × (state ≤ c .states) × (key < 2048) × (maxVariables ≤ length (now words)) ⌝ }
-    requires { ⌜ Apart from state (now words) ⌝ }
-    ensures { λ r. ⌜ Asks c state key (now (words .entry)) (now (words .exit)) r ⌝ }
+    requires { ⌜ Indexed (c .variables) (now words) (now finder) (now own) ⌝ }
+    ensures { λ r. ⌜ Asks c state key (now (words .entry)) (now (words .exit)) r × Indexed (r .counts .variables) (now (words .exit)) (now (finder .exit)) (now (own .exit)) ⌝ }
 {
     if c.over {
         return Asked {
@@ -61,7 +50,8 @@ pub fn ask(words: &mut [u32], c: Counts, from: usize, state: usize, key: usize) 
     }
     let n = c.variables;
     let word = (state * KEYS + key) as u32;
-    let at = find(words, from, n, word);
+    let h = chain(state, key);
+    let at = find(words, finder, n, h, word);
     if at < n {
         return Asked {
             variable: at + 1,
@@ -75,6 +65,8 @@ pub fn ask(words: &mut [u32], c: Counts, from: usize, state: usize, key: usize) 
         };
     }
     words[n] = word;
+    enter_chain(finder, h, n);
+    enter_own(own, state, n);
     Asked {
         variable: n + 1,
         counts: c.with_variable(),

@@ -27,6 +27,12 @@ impl Build {
 
     pub const CLAUSES: usize = 5000;
 
+    // Working space beside the words: a number for each chain, then one for each variable.
+    pub const FINDER: usize = 2048 + Build::VARIABLES;
+
+    // A number for each variable, then two for each state, states counted from 0.
+    pub const OWN: usize = Build::VARIABLES + 2 * (Build::STATES + 1);
+
     // State 1 and nothing else.
     pub fn start() -> Counts
         ensures { λ r. ⌜ r ≡ atStart ⌝ }

@@ -1,7 +1,7 @@
 -- `build::classes::disjunctive` meets its contract: two askings and a clause. Assumes nothing.
 use native.Mathlib.Omega.{arith}
 use borrow.Author.Needs.{needs}
-use Rattle.encoding.proofs.Steps.{apart-stays}
+use Rattle.build.proofs.Looping.{indexed-written}
 use Rattle.build.proofs.Doing.{disjunctive-does}
 use Rattle.build.proofs.classes.disjunctive.Statement.{statement}
 use Rattle.build.proofs.classes.disjunctive.Tie as tie
@@ -11,18 +11,18 @@ ask-requires c κs = search needs
 
 ask-requires-2 : tie.Need-ask-requires-2
 ask-requires-2 c κs =
-    let d = c .before .before .before .before .before .before in
-    let x = c .before .before .before .ask in
-    let from = d .pre .1 .0 in (
-      (x .ensures .next .room, omega (arith, d .pre .0 .1, x .ensures .same), d .pre .0 .4, omega (arith, d .pre .1 .1 .0, x .kept .0)),
-      apart-stays (d .args .from) (d .args .s) (from .0) (x .ensures .next) (from .1),
-    )
+    let d = c .before .before .before .before .before .before .before .before .before .before .before .before .before .before .before .before in
+    let x = c .before .before .before .before .before .before .before .before .before .ask in
+    ((x .ensures .0 .next .room, omega (arith, d .pre .0 .1, x .ensures .0 .same), d .pre .0 .4, omega (arith, d .pre .1 .1 .0, x .kept .0)), x .ensures .1)
 
 three-requires : tie.Need-three-requires
-three-requires c κs = search needs
+three-requires c κs =
+    let d = c .before .before .before .before .before .before .before .before .before .before .before .before .before .before .before .before .before .before .before .before .before .before .before .before in
+    (omega (arith, d .pre .0 .2), omega (arith, c .before .before .before .before .before .before .before .before .before .before .before .before .before .before .before .before .before .ask .ensures .0 .variable), omega (arith, c .before .before .before .before .before .before .before .ask2 .ensures .0 .variable))
 
 write-requires : tie.Need-write-requires
-write-requires c κs = search needs
+write-requires c κs =
+    (c .before .before .before .before .before .before .before .before .ask2 .ensures .0 .next .room, c .before .before .before .before .before .before .before .before .before .before .before .before .before .before .before .before .before .before .before .before .before .before .before .before .before .pre .1 .1 .1)
 
 same-length : tie.Need-same-length
 same-length c = search needs
@@ -30,10 +30,17 @@ same-length c = search needs
 same-length-2 : tie.Need-same-length-2
 same-length-2 c = search needs
 
+same-length-3 : tie.Need-same-length-3
+same-length-3 c = search needs
+
+same-length-4 : tie.Need-same-length-4
+same-length-4 c = search needs
+
 returns : tie.Need-returns
 returns c =
-    let y = c .before .before .before .before .before .before in
-    disjunctive-does (y .before .before .before .before .ask .ensures) (y .ask2 .ensures) (c .before .write .ensures) (c .before .before .three .ensures)
+    let w = c .before .write .ensures in
+    let y = c .before .before .before .before .before .before .before .before .before .before .ask2 .ensures in
+    (disjunctive-does (c .before .before .before .before .before .before .before .before .before .before .before .before .before .before .before .before .before .before .before .before .ask .ensures .0) (y .0) w (c .before .before .three .ensures), indexed-written w (y .1))
 
 pub disjunctive-spec : {M : Type 1} → statement M
 disjunctive-spec =
@@ -45,4 +52,6 @@ disjunctive-spec =
     write-requires
     same-length
     same-length-2
+    same-length-3
+    same-length-4
     returns)

@@ -1,6 +1,7 @@
--- `build::classes::existential` meets its contract. Every word belongs to a state made before, so none to the new one. Assumes nothing.
+-- `build::classes::existential` meets its contract: a state, an asking and a clause. Assumes nothing.
 use native.Mathlib.Omega.{arith}
 use borrow.Author.Needs.{needs}
+use Rattle.build.proofs.Looping.{indexed-made, indexed-written}
 use Rattle.build.proofs.Doing.{existential-over, existential-does}
 use Rattle.build.proofs.classes.existential.Statement.{statement}
 use Rattle.build.proofs.classes.existential.Tie as tie
@@ -13,22 +14,24 @@ same-length c = search needs
 
 returns : tie.Need-returns
 returns c =
-    let a = c .before .before .before .before .before .before .before .args in
-    existential-over (c .before .before .before .make .ensures) (a .l) (a .words .now) (a .clauses .now) (c .if1 .taken)
+    let d = c .before .before .before .before .before .before .before .before .before in
+    let a = d .args in
+    let m = c .before .before .before .make .ensures in
+    (existential-over m (a .l) (a .words .now) (a .clauses .now) (c .if1 .taken), indexed-made m (d .pre .1 .0))
 
 ask-requires : tie.Need-ask-requires
 ask-requires c κs =
-    let k = c .before .before .before .before in
-    let d = k .before .before .before .before in
-    let m = k .make .ensures in
-    let more = m .more (c .before .if1 .left) in
-    ((m .room, omega arith, d .pre .0 .4, d .pre .1 .1 .1), λ i h e. omega (arith, d .pre .1 .0 i (omega (arith, m .variables)), more))
+    let d = c .before .before .before .before .before .before .before .before .before .before .before .before in
+    let m = c .before .before .before .before .before .before .make .ensures in
+    ((m .room, omega arith, d .pre .0 .4, d .pre .1 .1 .1), indexed-made m (d .pre .1 .0))
 
 two-requires : tie.Need-two-requires
-two-requires c κs = search needs
+two-requires c κs =
+    (omega (arith, c .before .before .before .before .before .before .before .before .before .before .before .before .before .before .before .before .before .before .before .before .pre .0 .2), omega (arith, c .before .before .before .before .before .before .before .ask .ensures .0 .variable))
 
 write-requires : tie.Need-write-requires
-write-requires c κs = search needs
+write-requires c κs =
+    (c .before .before .before .before .before .before .before .before .ask .ensures .0 .next .room, c .before .before .before .before .before .before .before .before .before .before .before .before .before .before .before .before .before .before .before .before .before .pre .1 .1 .2)
 
 same-length-2 : tie.Need-same-length-2
 same-length-2 c = search needs
@@ -39,12 +42,18 @@ same-length-3 c = search needs
 same-length-4 : tie.Need-same-length-4
 same-length-4 c = search needs
 
+same-length-5 : tie.Need-same-length-5
+same-length-5 c = search needs
+
+same-length-6 : tie.Need-same-length-6
+same-length-6 c = search needs
+
 returns-2 : tie.Need-returns-2
 returns-2 c =
-    let x = c .before .before .before .before .before .before in
-    let k = x .before .before in
-    let a = k .before .before .before .before .before .before .before .args in
-    existential-does (k .before .before .before .make .ensures) (a .l) (a .words .now) (a .clauses .now) (k .if1 .left) (x .ask .ensures) (c .before .write .ensures) (c .before .before .two .ensures)
+    let a = c .before .before .before .before .before .before .before .before .before .before .before .before .before .before .before .before .before .before .before .before .before .before .before .args in
+    let x = c .before .before .before .before .before .before .before .before .before .before .ask .ensures in
+    let w = c .before .write .ensures in
+    (existential-does (c .before .before .before .before .before .before .before .before .before .before .before .before .before .before .before .before .before .make .ensures) (a .l) (a .words .now) (a .clauses .now) (c .before .before .before .before .before .before .before .before .before .before .before .before .before .before .if1 .left) (x .0) w (c .before .before .two .ensures), indexed-written w (x .1))
 
 pub existential-spec : {M : Type 1} → statement M
 existential-spec =
@@ -59,4 +68,6 @@ existential-spec =
     same-length-2
     same-length-3
     same-length-4
+    same-length-5
+    same-length-6
     returns-2)
