@@ -4,6 +4,7 @@ ghost use mathlib.Core.Bool.{Bool, true, false};
 ghost use Prim.Native.Nat.{ℕ, _+_, _<_};
 ghost use Rattle.encoding.specs.Limits.{maxStates, maxVariables, maxClauses};
 ghost use Rattle.encoding.specs.Shows.{atStart, withState, withVariable, withClause, goneOver, totalsOf};
+use crate::finding::CHAINS;
 
 // The totals of a build.
 pub struct Build {
@@ -28,7 +29,7 @@ impl Build {
     pub const CLAUSES: usize = 5000;
 
     // Working space beside the words: a number for each chain, then one for each variable.
-    pub const FINDER: usize = 2048 + Build::VARIABLES;
+    pub const FINDER: usize = CHAINS + Build::VARIABLES;
 
     // A number for each variable, then two for each state, states counted from 0.
     pub const OWN: usize = Build::VARIABLES + 2 * (Build::STATES + 1);

@@ -7,12 +7,6 @@ use Rattle.encoding.proofs.Steps.{ask-over, ask-old, ask-spilt, ask-new
 use Rattle.encoding.proofs.Indexing.{indexed-over, indexed-new}
 use Rattle.encoding.proofs.Listing.{last-low}
 use Rattle.encoding.proofs.Chains.{chain-low}
-use Rattle.encoding.proofs.counts.Counts.spilt.Reads as spilt-reads
-use Rattle.encoding.proofs.counts.Counts.with_variable.Reads as with-variable-reads
-use Rattle.encoding.proofs.finding.chain.Reads as chain-reads
-use Rattle.encoding.proofs.finding.enter_chain.Reads as enter-chain-reads
-use Rattle.encoding.proofs.finding.find.Reads as find-reads
-use Rattle.encoding.proofs.owning.enter_own.Reads as enter-own-reads
 use Rattle.encoding.proofs.asking.ask.Statement.{statement}
 use Rattle.encoding.proofs.asking.ask.Tie as tie
 
