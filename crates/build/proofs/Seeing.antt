@@ -20,7 +20,7 @@ use Rattle.signed.specs.declared.Ask.{Ask}
 use Rattle.signed.specs.declared.Class.{Class}
 use Rattle.signed.specs.declared.Class.the-variants.{Leaf, Conjunctive, Disjunctive, Existential, Universal}
 use Rattle.encoding.specs.Build as def
-use Rattle.encoding.specs.Build.{Variable, novariable, Plan, plan, role, by, rule1, rule2, rule3}
+use Rattle.encoding.specs.Build.{novariable, Plan, plan, role, by, rule1, rule2, rule3}
 use Rattle.encoding.specs.Limits.{word}
 use Rattle.encoding.specs.Shows.{Room, Buffers, buffers, Shows}
 use Rattle.encoding.specs.declared.counts.Counts.{Counts}

@@ -5,7 +5,7 @@ ghost use Prim.Native.Nat.{_+_, _*_, _≤_, _<_};
 ghost use lib.ListN.{length};
 ghost use Rattle.signed.specs.Signed as class;
 ghost use Rattle.encoding.specs.Build as def;
-ghost use Rattle.encoding.specs.Limits.{maxStates, maxVariables, maxClauses};
+ghost use Rattle.encoding.specs.Limits.{maxVariables, maxClauses};
 ghost use Rattle.encoding.specs.Index.{Indexed};
 ghost use Rattle.encoding.specs.Shows.{Room, Low, Parents, buffers};
 ghost use Rattle.build.specs.Filled.{Long};
@@ -100,7 +100,7 @@ pub fn existential(
 }
 
 // "its successors of that relation in number order, made by p: ask the successor for the part, write (−n, −p, l)." Only the states that this state's
-// existential variables have made can be its successors: `before` has the counts before they were made. One turn for each of them.
+// existential variables have made can be its successors: `before` is how many there were before they were made. One turn for each of them.
 pub fn universal(
     states: &[u16],
     words: &mut [u32],
@@ -108,17 +108,17 @@ pub fn universal(
     own: &mut [u16],
     clauses: &mut [i16],
     c: Counts,
-    before: Counts,
+    before: usize,
     s: usize,
     a: usize,
     r: usize,
     l: Ask,
 ) -> Counts
     requires { ⌜ Room c × (a ≤ maxVariables) × (l .key < 2048) × (c .over ≡ false) ⌝ }
-    requires { ⌜ before .states ≤ c .states ⌝ }
+    requires { ⌜ before ≤ c .states ⌝ }
     requires { ⌜ Indexed (c .variables) (now words) (now finder) (now own) ⌝ }
     requires { ⌜ Long (now states) (now words) (now clauses) ⌝ }
-    requires { ⌜ Low (now states) × Parents (before .states) s (now states) ⌝ }
+    requires { ⌜ Low (now states) × Parents before s (now states) ⌝ }
     ensures { λ out. ⌜ Pushes (λ φ v p. def.rule3 φ s v (class.universal r p)) a l c out
         (buffers (now (states .entry)) (now (words .entry)) (now (clauses .entry)))
         (buffers (now (states .entry)) (now (words .exit)) (now (clauses .exit)))
@@ -126,7 +126,7 @@ pub fn universal(
 {
     let n = c.states;
     let mut d = c;
-    let mut j = before.states;
+    let mut j = before;
     while j < n {
         d = push(states, words, finder, own, clauses, d, s, a, r, l, j);
         j += 1;

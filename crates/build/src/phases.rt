@@ -5,7 +5,7 @@ ghost use lib.ListN.{length};
 ghost use Rattle.book.specs.Rulebook.{tableOf};
 ghost use Rattle.book.specs.Told.{Sound};
 ghost use Rattle.encoding.specs.Build as def;
-ghost use Rattle.encoding.specs.Limits.{maxStates, maxVariables, maxClauses};
+ghost use Rattle.encoding.specs.Limits.{maxVariables, maxClauses};
 ghost use Rattle.encoding.specs.Index.{Indexed};
 ghost use Rattle.encoding.specs.Shows.{Room, Low, Parents, buffers};
 ghost use Rattle.build.specs.Filled.{Long};
@@ -45,8 +45,7 @@ fn phase1(
     d
 }
 
-// "2. Its existential variables p in number order". One turn for each variable of the state that is there when it
-// begins.
+// "2. Its existential variables p in number order". One turn for each variable of the state that is there when it begins.
 fn phase2(
     book: &[u8],
     offset: usize,
@@ -93,8 +92,8 @@ fn phase2(
     d
 }
 
-// "3. Its universal variables n in number order". `before` has the counts before phase 2. One turn for each variable of the state
-// that is there when it begins; none if phase 2 made no state, for then it has no successor.
+// "3. Its universal variables n in number order". `before` is how many states there were before phase 2. One turn for each variable of the state that is
+// there when it begins; none if phase 2 made no state, for then the state has no successors.
 fn phase3(
     book: &[u8],
     offset: usize,
@@ -105,14 +104,14 @@ fn phase3(
     own: &mut [u16],
     clauses: &mut [i16],
     c: Counts,
-    before: Counts,
+    before: usize,
     s: usize,
 ) -> Counts
     requires { ⌜ Sound (now book) offset × (nodes ≡ length (tableOf (now book))) ⌝ }
-    requires { ⌜ Room c × (s ≤ c .states) × (before .states ≤ c .states) ⌝ }
+    requires { ⌜ Room c × (s ≤ c .states) × (before ≤ c .states) ⌝ }
     requires { ⌜ Indexed (c .variables) (now words) (now finder) (now own) ⌝ }
     requires { ⌜ Long (now states) (now words) (now clauses) ⌝ }
-    requires { ⌜ Low (now states) × Parents (before .states) s (now states) ⌝ }
+    requires { ⌜ Low (now states) × Parents before s (now states) ⌝ }
     ensures { λ r. ⌜ Pushing (λ φ. def.phase3 φ s) (tableOf (now (book .entry))) c r
         (buffers (now (states .entry)) (now (words .entry)) (now (clauses .entry)))
         (buffers (now (states .entry)) (now (words .exit)) (now (clauses .exit)))
@@ -121,7 +120,7 @@ fn phase3(
     if c.over {
         return c;
     }
-    if c.states == before.states {
+    if c.states == before {
         return c;
     }
     let n = c.variables;
@@ -193,7 +192,7 @@ pub fn expand(
         own,
         clauses,
         e,
-        d,
+        d.states,
         j + 1,
     )
 }

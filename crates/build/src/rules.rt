@@ -5,7 +5,7 @@ ghost use lib.ListN.{length, getD};
 ghost use Rattle.book.specs.Rulebook.{tableOf};
 ghost use Rattle.book.specs.Told.{Sound};
 ghost use Rattle.encoding.specs.Build as def;
-ghost use Rattle.encoding.specs.Limits.{maxStates, maxVariables, maxClauses};
+ghost use Rattle.encoding.specs.Limits.{maxVariables, maxClauses};
 ghost use Rattle.encoding.specs.Index.{Indexed};
 ghost use Rattle.encoding.specs.Shows.{Room, Low, Parents, buffers};
 ghost use Rattle.build.specs.Filled.{Long};
@@ -108,7 +108,7 @@ pub fn rule2(
     }
 }
 
-// Phase 3: a universal variable. `before` has the counts before phase 2.
+// Phase 3: a universal variable. `before` is how many states there were before phase 2.
 pub fn rule3(
     book: &[u8],
     offset: usize,
@@ -119,15 +119,15 @@ pub fn rule3(
     own: &mut [u16],
     clauses: &mut [i16],
     c: Counts,
-    before: Counts,
+    before: usize,
     s: usize,
     v: usize,
 ) -> Counts
     requires { ⌜ Sound (now book) offset × (nodes ≡ length (tableOf (now book))) ⌝ }
-    requires { ⌜ Room c × (v < c .variables) × (before .states ≤ c .states) ⌝ }
+    requires { ⌜ Room c × (v < c .variables) × (before ≤ c .states) ⌝ }
     requires { ⌜ (getD (now words) v 0 / 2048 ≡ s) × Indexed (c .variables) (now words) (now finder) (now own) ⌝ }
     requires { ⌜ Long (now states) (now words) (now clauses) ⌝ }
-    requires { ⌜ Low (now states) × Parents (before .states) s (now states) ⌝ }
+    requires { ⌜ Low (now states) × Parents before s (now states) ⌝ }
     ensures { λ r. ⌜ Pushing (λ φ. def.by φ (def.rule3 φ) s v) (tableOf (now (book .entry))) c r
         (buffers (now (states .entry)) (now (words .entry)) (now (clauses .entry)))
         (buffers (now (states .entry)) (now (words .exit)) (now (clauses .exit)))

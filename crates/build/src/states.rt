@@ -38,7 +38,8 @@ fn begin(
     write(clauses, x.counts, one(x.variable, l.minus))
 }
 
-// One turn for each state. Stops at the first overflow: totals never fall, so the build stays over a limit.
+// One turn for each state. Stops at the first overflow: totals never fall, so the build stays over a limit. The words are found again by `finder` and
+// `own`, which are empty before the first is asked for.
 pub fn run(
     book: &[u8],
     offset: usize,

@@ -15,12 +15,12 @@ use Rattle.build.proofs.classes.universal.Statement.{statement}
 use Rattle.build.proofs.classes.universal.Tie as tie
 
 abbrev Inv-loop : tie.InvT-loop
-Inv-loop states words₀ finder₀ own₀ clauses₀ s a r l n d₀ j₀ words finder own clauses d j =
+Inv-loop states words₀ finder₀ own₀ clauses₀ before s a r l n d₀ j₀ words finder own clauses d j =
     (j ≤ n) × Stays d₀ d words₀ words × (length words ≡ length words₀) × (length clauses ≡ length clauses₀) × (length finder ≡ length finder₀) × (length own ≡ length own₀) × Indexed (d .variables) words finder own
     × ((φ : Plan) (v : ℕ) (p : class.Ask) → Part l p → a ≡ suc v → Does d₀ (buffers states words₀ clauses₀) (buffers states words clauses) d (scan (push φ s v r p) j 0))
 
 abbrev μ-loop : tie.MeasureT-loop
-μ-loop states words₀ finder₀ own₀ clauses₀ s a r l n d₀ j₀ words finder own clauses d j = n - j
+μ-loop states words₀ finder₀ own₀ clauses₀ before s a r l n d₀ j₀ words finder own clauses d j = n - j
 
 loop-holds : tie.Need-loop-holds Inv-loop μ-loop
 loop-holds c =
@@ -33,7 +33,7 @@ loop-holds c =
       refl,
       refl,
       d .pre .1 .1 .0,
-      λ φ v p P av o B sh. push-begins φ (a .s) v (a .r) p (a .before .states) o (a .c) _ B (d .pre .0 .0) (d .pre .0 .3) (d .pre .1 .0) (d .pre .1 .1 .1 .1 .1) sh,
+      λ φ v p P av o B sh. push-begins φ (a .s) v (a .r) p (a .before) o (a .c) _ B (d .pre .0 .0) (d .pre .0 .3) (d .pre .1 .0) (d .pre .1 .1 .1 .1 .1) sh,
     )
 
 push-requires : tie.Need-push-requires Inv-loop μ-loop
