@@ -46,10 +46,10 @@ module _ {c : Counts} {s : ℕ} {l : Ask} {ws ws′ : List ℕ} {x : Asked} (a :
   asks-part : Shows o (x .counts) (buffers st ws′ cs) (ask s p B)
   asks-part = a .does o st cs B p (P .small) (part-key l p P) sh
 
-  place-part : x .counts .over ≡ false → x .variable ≡ suc (place s (p .key) (ask s p B .variables))
+  place-part : x .counts .over ≡ 0 → x .variable ≡ suc (place s (p .key) (ask s p B .variables))
   place-part f = a .named o st cs B p (P .small) (part-key l p P) sh f
 
-  literal-part : x .counts .over ≡ false → literal (l .minus) (x .variable) ≡ asked s p (ask s p B)
+  literal-part : x .counts .over ≡ 0 → literal (l .minus) (x .variable) ≡ asked s p (ask s p B)
   literal-part f = literal-asked l p P s (x .variable) (ask s p B) (place-part f)
 
 -- two askings at one state: the first variable stays where it is
@@ -58,13 +58,13 @@ module _ {c : Counts} {s : ℕ} {l m : Ask} {ws ws₁ ws₂ : List ℕ} {x y : A
   asks-both : Shows o (y .counts) (buffers st ws₂ cs) (ask s q (ask s p B))
   asks-both = asks-part ay q Q o st cs (ask s p B) (asks-part ax p P o st cs B sh)
 
-  literal-first : y .counts .over ≡ false → literal (l .minus) (x .variable) ≡ asked s p (ask s q (ask s p B))
+  literal-first : y .counts .over ≡ 0 → literal (l .minus) (x .variable) ≡ asked s p (ask s q (ask s p B))
   unfolding ask
   literal-first f =
       literal-asked l p P s (x .variable) (ask s q (ask s p B))
       (place-part ax p P o st cs B sh (ay .next .sticky f) ∙ ap suc (sym (place-stays s (p .key) s (q .key) (insert s (p .key) (B .variables)) (place-in s (p .key) (B .variables)))))
 
-  literal-second : y .counts .over ≡ false → literal (m .minus) (y .variable) ≡ asked s q (ask s q (ask s p B))
+  literal-second : y .counts .over ≡ 0 → literal (m .minus) (y .variable) ≡ asked s q (ask s q (ask s p B))
   literal-second f = literal-part ay q Q o st cs (ask s p B) (asks-part ax p P o st cs B sh) f
 
 module _ {c : Counts} {s a : ℕ} {l m : Ask} {ws ws₁ ws₂ : List ℕ} {cs : List ℤ} {x y : Asked} (ax : Asks c s (l .key) ws ws₁ x) (ay : Asks (x .counts) s (m .key) ws₁ ws₂ y) where
@@ -101,7 +101,7 @@ module _ {c d : Counts} {s r a : ℕ} {st st′ : List ℕ} (mk : Makes c s r a 
   makes : (v : ℕ) → a ≡ suc v → (o : Buffers) (B : def.Build) → Shows o c (buffers st ws cs) B → Shows o d (buffers st′ ws cs) (make (record { parent = s; relation = r; maker = suc v }) B)
   makes v av o B sh = subst (λ (z : ℕ). Shows o d (buffers st′ ws cs) (make (record { parent = s; relation = r; maker = z }) B)) av (mk .does o ws cs B sh)
 
-  pub existential-over : d .over ≡ true → Opens s a r l c d (buffers st ws cs) (buffers st′ ws cs)
+  pub existential-over : (d .over ≡ 0 → ⊥) → Opens s a r l c d (buffers st ws cs) (buffers st′ ws cs)
   unfolding rule2
   existential-over t =
       record {
@@ -113,11 +113,11 @@ module _ {c d : Counts} {s r a : ℕ} {st st′ : List ℕ} (mk : Makes c s r a 
             over-stays o d (buffers st′ ws cs) M _ t (less-then M A _ (ask-less n p M) (write-less (two (minus (suc v)) (asked n p A)) A)) (makes v av o B sh);
       }
 
-  next-state : d .over ≡ false → (v : ℕ) → a ≡ suc v → (o : Buffers) (B : def.Build) → Shows o c (buffers st ws cs) B → d .states ≡ suc (states# B)
+  next-state : d .over ≡ 0 → (v : ℕ) → a ≡ suc v → (o : Buffers) (B : def.Build) → Shows o c (buffers st ws cs) B → d .states ≡ suc (states# B)
   unfolding make
   next-state f v av o B sh = makes v av o B sh .exact f .states ∙ length-snoc (B .states) (record { parent = s; relation = r; maker = suc v })
 
-  pub existential-does : d .over ≡ false → {ws′ : List ℕ} {cs′ k : List ℤ} {x : Asked} {e : Counts} → Asks d (d .states) (l .key) ws ws′ x → Writes (x .counts) k cs cs′ e
+  pub existential-does : d .over ≡ 0 → {ws′ : List ℕ} {cs′ k : List ℤ} {x : Asked} {e : Counts} → Asks d (d .states) (l .key) ws ws′ x → Writes (x .counts) k cs cs′ e
       → k ≡ two (minus a) (literal (l .minus) (x .variable)) → Opens s a r l c e (buffers st ws cs) (buffers st′ ws′ cs′)
   unfolding rule2
   existential-does f {ws′} {cs′} {k} {x} {e} ax w i =
@@ -145,7 +145,7 @@ not-both a b d e h = go (ℕ-discrete a b) (ℕ-discrete d e)
     go (yes p) (no q) = rw (eq-eqb a b p, ne-eqb d e q)
 
 -- the record that the code reads is the build's
-record-shown : (o : Buffers) (c : Counts) (st ws : List ℕ) (cs : List ℤ) (B : def.Build) (j : ℕ) (d : Record) → d ≡ recordAt st j → c .over ≡ false → j < maxStates → Shows o c (buffers st ws cs) B
+record-shown : (o : Buffers) (c : Counts) (st ws : List ℕ) (cs : List ℤ) (B : def.Build) (j : ℕ) (d : Record) → d ≡ recordAt st j → c .over ≡ 0 → j < maxStates → Shows o c (buffers st ws cs) B
     → (d .parent ≡ getD (B .states) j norecord .parent) × (d .relation ≡ getD (B .states) j norecord .relation) × (d .maker ≡ getD (B .states) j norecord .maker)
 record-shown o c st ws cs B j d e off low sh =
     let y = sh .exact off .in-states in
@@ -155,7 +155,7 @@ record-shown o c st ws cs B j d e off low sh =
       ap (λ (z : Record). z .maker) e ∙ y (3 * j + 2) (omega arith) ∙ h .2,
     )
 
-module _ {c : Counts} {s r a j : ℕ} {l : Ask} {st ws : List ℕ} {cs : List ℤ} {d : Record} (is : d ≡ recordAt st j) (room : Room c) (off : c .over ≡ false) (low : j < c .states) where
+module _ {c : Counts} {s r a j : ℕ} {l : Ask} {st ws : List ℕ} {cs : List ℤ} {d : Record} (is : d ≡ recordAt st j) (room : Room c) (off : c .over ≡ 0) (low : j < c .states) where
   pub push-skips : (d .parent ≡ s → d .relation ≡ r → ⊥) → Pushes (λ φ v p. push φ s v r p j) a l c c (buffers st ws cs) (buffers st ws cs)
   unfolding push
   push-skips out =

@@ -8,7 +8,6 @@ use mathlib.Core.List.{List, [], _∷_}
 use lib.IntN.{ℤ, pos}
 use lib.ListN.{length, getD}
 use Rattle.ground.specs.Buffer.{cleared}
-use Rattle.ground.proofs.Tests.{true-false}
 use Rattle.ground.proofs.Buffers.{Kept, is-filled, filled-laid, filled-kept, length-filled}
 use Rattle.clauses.specs.Clause.{numbers}
 use Rattle.signed.specs.Asking.{Small}
@@ -51,7 +50,7 @@ module _ {st ws st₁ ws₁ : List ℕ} {cs cs₁ : List ℤ} (a : Cleared st ws
           in-words = cleared-zero 0 maxVariables ws ws₁ (a .words);
           in-clauses = cleared-zero (pos 0) (3 * maxClauses) cs cs₁ (a .clauses);
         };
-        over = λ q. true-false (sym q);
+        over = λ q. absurd (q refl);
         kept-states = cleared-kept 0 (3 * maxStates) st st₁ (a .states);
         kept-words = cleared-kept 0 maxVariables ws ws₁ (a .words);
         kept-clauses = cleared-kept (pos 0) (3 * maxClauses) cs cs₁ (a .clauses);
@@ -72,7 +71,7 @@ module _ {st ws st₁ ws₁ : List ℕ} {cs cs₁ : List ℤ} (a : Cleared st ws
 -- the two ends
 module _ {st ws st₁ ws₁ : List ℕ} {cs cs₁ : List ℤ} {c : Counts} {B : def.Build} (long : Long st ws cs) (ls : length st₁ ≡ length st) (lw : length ws₁ ≡ length ws) (lc : length cs₁ ≡ length cs)
     (sh : Shows (buffers st ws cs) c (buffers st₁ ws₁ cs₁) B) where
-  pub filled-whole : Room c → c .over ≡ false → {r : Build} → r ≡ totalsOf c → Filled B st ws cs st₁ ws₁ cs₁ (Whole r)
+  pub filled-whole : Room c → c .over ≡ 0 → {r : Build} → r ≡ totalsOf c → Filled B st ws cs st₁ ws₁ cs₁ (Whole r)
   unfolding builtOf
   filled-whole room off {r} e =
       let x = sh .exact off in
@@ -84,7 +83,7 @@ module _ {st ws st₁ ws₁ : List ℕ} {cs cs₁ : List ℤ} {c : Counts} {B : 
         in-clauses = rw f (is-filled (pos 0) (3 * maxClauses) (clauseBuffer B) cs cs₁ (long .2) lc (x .in-clauses) (sh .kept-clauses));
       }
 
-  pub filled-over : c .over ≡ true → {st₂ ws₂ : List ℕ} {cs₂ : List ℤ} → Cleared st₁ ws₁ cs₁ st₂ ws₂ cs₂ → Filled B st ws cs st₂ ws₂ cs₂ Over
+  pub filled-over : (c .over ≡ 0 → ⊥) → {st₂ ws₂ : List ℕ} {cs₂ : List ℤ} → Cleared st₁ ws₁ cs₁ st₂ ws₂ cs₂ → Filled B st ws cs st₂ ws₂ cs₂ Over
   unfolding builtOf
   filled-over on {st₂} {ws₂} {cs₂} a =
       let f = sh .over on in

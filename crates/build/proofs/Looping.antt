@@ -6,7 +6,7 @@ use native.Mathlib.Decide.{ℕ-discrete}
 use native.Mathlib.Nat.{zero-add}
 use native.Mathlib.Numerals.{add-one}
 use mathlib.Core.Path.{_≡_, refl, sym, ap, _∙_, subst}
-use mathlib.Core.Bool.{Bool, true, false}
+use mathlib.Core.Bool.{true, false}
 use mathlib.Core.List.{List}
 use lib.IntN.{ℤ}
 use lib.ListN.{getD}
@@ -50,7 +50,7 @@ pub indexed-made : {c r : Counts} {s q p : ℕ} {st st′ ws finder own : List �
 indexed-made {c} {r} {s} {q} {p} {st} {st′} {ws} {finder} {own} m h = subst (λ (n : ℕ). Indexed n ws finder own) (sym (m .variables)) h
 
 -- once over a limit, nothing is done
-module _ {c : Counts} (room : Room c) (on : c .over ≡ true) where
+module _ {c : Counts} (room : Room c) (on : c .over ≡ 0 → ⊥) where
   pub over-asking : {f : Plan → def.Build → def.Build} {ns : List Node} {ws : List ℕ} {cs : List ℤ} → ((φ : Plan) (B : def.Build) → Less B (f φ B)) → Asking f ns c c ws ws cs cs
   over-asking {f} {ns} {ws} less = record { stays = stays-refl c ws room; does = λ root st o B sh. over-stays o c _ B _ on (less (plan ns root) B) sh }
 
@@ -82,21 +82,21 @@ due-more f size k B due h u q = go (ℕ-discrete u k)
 -- no place from v on and before r belongs to s, or the build is over: the scan has done nothing there
 module _ (φ : Plan) (rule : ℕ → ℕ → class.Class → def.Build → def.Build) (idle : (s v : ℕ) (B : def.Build) → rule s v leaf B ≡ B) (less : (s u : ℕ) (B : def.Build) → Less B (by φ rule s u B)) where
   passes : (s v r : ℕ) (o : Buffers) (c : Counts) (b : Buffers) (B : def.Build) → Room c → v ≤ r → r ≤ c .variables → Others v r s (b .words) → Shows o c b (scan (by φ rule s) v 0 B) → Shows o c b (scan (by φ rule s) r 0 B)
-  passes s v r o c b B room le h others sh = go (c .over) refl
+  passes s v r o c b B room le h others sh = go (ℕ-discrete (c .over) 0)
     where
       further : scan (by φ rule s) r 0 B ≡ scan (by φ rule s) (r - v) (0 + v) (scan (by φ rule s) v 0 B)
       further = let e : r ≡ v + (r - v) = omega arith in ap (λ (n : ℕ). scan (by φ rule s) n 0 B) e ∙ scan-add (by φ rule s) v (r - v) 0 B
 
-      other : c .over ≡ false → (u : ℕ) → v ≤ u → u < r → getD (scan (by φ rule s) v 0 B .variables) u novariable .state ≡ s → ⊥
+      other : c .over ≡ 0 → (u : ℕ) → v ≤ u → u < r → getD (scan (by φ rule s) v 0 B .variables) u novariable .state ≡ s → ⊥
       other off u p q e =
           let y = sh .exact off in
           let xs = scan (by φ rule s) v 0 B .variables in
           let w = word-at xs (b .words) (omega (arith, room .variables, y .variables)) (y .in-words) u (omega (arith, y .variables)) in
           others u p q (rw w (word-state (getD xs u novariable) (y .keys u) ∙ e))
 
-      go : (t : Bool) → c .over ≡ t → Shows o c b (scan (by φ rule s) r 0 B)
-      go true e = rw further (over-stays o c b (scan (by φ rule s) v 0 B) _ e (scan-less (by φ rule s) (less s) (r - v) (0 + v) (scan (by φ rule s) v 0 B)) sh)
-      go false e = rw (skipping.by-skips φ rule idle s v r B le (other e)) sh
+      go : Dec (c .over ≡ 0) → Shows o c b (scan (by φ rule s) r 0 B)
+      go (no e) = rw further (over-stays o c b (scan (by φ rule s) v 0 B) _ e (scan-less (by φ rule s) (less s) (r - v) (0 + v) (scan (by φ rule s) v 0 B)) sh)
+      go (yes e) = rw (skipping.by-skips φ rule idle s v r B le (other e)) sh
 
   -- a turn at place v, and on to the next place r
   turns : (s v r : ℕ) (o : Buffers) (c : Counts) (b : Buffers) (B : def.Build) → Room c → v < r → r ≤ c .variables → Others (suc v) r s (b .words) → Shows o c b (by φ rule s v (scan (by φ rule s) v 0 B))
@@ -142,16 +142,16 @@ pub follows : {c d : Counts} {xs ws : List ℕ} {s : ℕ} (v n r : ℕ) → Next
 follows {c} {d} {xs} {ws} v n r next h own f = subst (λ (t : ℕ). Follows v n t ws r) (ap (λ (w : ℕ). w / 2048) (next .stay v h) ∙ own) f
 
 -- the states before place n have other parents
-strangers : (s n : ℕ) (o : Buffers) (c : Counts) (b : Buffers) (B : def.Build) → Room c → c .over ≡ false → n ≤ c .states → Parents n s (b .states) → Shows o c b B
+strangers : (s n : ℕ) (o : Buffers) (c : Counts) (b : Buffers) (B : def.Build) → Room c → c .over ≡ 0 → n ≤ c .states → Parents n s (b .states) → Shows o c b B
     → (j : ℕ) → j < n → getD (B .states) j norecord .parent ≡ s → ⊥
 strangers s n o c b B room off h parents sh j q e = let z = parents j q in omega (arith, sh .exact off .in-states (3 * j) (omega (arith, room .states)), numbers-at (B .states) j .0)
 
-pub push-begins : (φ : Plan) (s v r : ℕ) (p : class.Ask) (n : ℕ) (o : Buffers) (c : Counts) (b : Buffers) (B : def.Build) → Room c → c .over ≡ false → n ≤ c .states → Parents n s (b .states) → Shows o c b B
+pub push-begins : (φ : Plan) (s v r : ℕ) (p : class.Ask) (n : ℕ) (o : Buffers) (c : Counts) (b : Buffers) (B : def.Build) → Room c → c .over ≡ 0 → n ≤ c .states → Parents n s (b .states) → Shows o c b B
     → Shows o c b (scan (push φ s v r p) n 0 B)
 push-begins φ s v r p n o c b B room off h parents sh = rw (skipping.push-skips φ s v r p n B (strangers s n o c b B room off h parents sh)) sh
 
 -- all of them: phase 3 does nothing
-pub childless : {s n : ℕ} {ns : List Node} {c : Counts} {b : Buffers} → Room c → c .over ≡ false → c .states ≡ n → Parents n s (b .states) → Pushing (λ φ. phase3 φ s) ns c c b b
+pub childless : {s n : ℕ} {ns : List Node} {c : Counts} {b : Buffers} → Room c → c .over ≡ 0 → c .states ≡ n → Parents n s (b .states) → Pushing (λ φ. phase3 φ s) ns c c b b
 childless {s} {n} {ns} {c} {b} room off e parents =
     record {
       stays = stays-refl c (b .words) room;
@@ -160,7 +160,7 @@ childless {s} {n} {ns} {c} {b} room off e parents =
     }
 
 -- the ends of phases 2 and 3 and of a universal variable
-module _ (φ : Plan) (s : ℕ) {n : ℕ} {o : Buffers} {c d : Counts} {b b′ : Buffers} (B : def.Build) (off : c .over ≡ false) (sh : Shows o c b B) where
+module _ (φ : Plan) (s : ℕ) {n : ℕ} {o : Buffers} {c d : Counts} {b b′ : Buffers} (B : def.Build) (off : c .over ≡ 0) (sh : Shows o c b B) where
   pub ends2 : n ≡ c .variables → Shows o d b′ (scan (by φ (rule2 φ) s) n 0 B) → Shows o d b′ (phase2 φ s B)
   unfolding phase2
   ends2 e h = subst (λ (m : ℕ). Shows o d b′ (scan (by φ (rule2 φ) s) m 0 B)) (e ∙ sh .exact off .variables) h
@@ -175,15 +175,15 @@ module _ (φ : Plan) (s : ℕ) {n : ℕ} {o : Buffers} {c d : Counts} {b b′ : 
 
 -- a growing loop: once over it is over for good; otherwise at its end it has made the result
 module _ (f : ℕ → def.Build → def.Build) (size : def.Build → ℕ) (k : ℕ) {o : Buffers} {d : Counts} {b : Buffers} (B R : def.Build) (st : Settles f size B R) (due : Due f size k B) (sh : Shows o d b (scan f k 0 B)) where
-  pub settles-over : d .over ≡ true → Shows o d b R
+  pub settles-over : (d .over ≡ 0 → ⊥) → Shows o d b R
   settles-over e = over-stays o d b (scan f k 0 B) R e (st k due .1) sh
 
-  pub settles : (n : ℕ) → n ≤ k → (d .over ≡ false → n ≡ size (scan f k 0 B)) → Shows o d b R
-  settles n out is = go (d .over) refl
+  pub settles : (n : ℕ) → n ≤ k → (d .over ≡ 0 → n ≡ size (scan f k 0 B)) → Shows o d b R
+  settles n out is = go (ℕ-discrete (d .over) 0)
     where
-      go : (t : Bool) → d .over ≡ t → Shows o d b R
-      go true e = settles-over e
-      go false e = let q = is e in subst (λ (C : def.Build). Shows o d b C) (st k due .0 (omega arith)) sh
+      go : Dec (d .over ≡ 0) → Shows o d b R
+      go (no e) = settles-over e
+      go (yes e) = let q = is e in subst (λ (C : def.Build). Shows o d b C) (st k due .0 (omega arith)) sh
 
 -- the three phases of a state
 pub expand-does : (φ : Plan) (j t : ℕ) {c d e r : Counts} {st st₁ ws ws₁ ws₂ ws₃ : List ℕ} {cs cs₁ cs₂ cs₃ : List ℤ} → t ≡ suc j

@@ -118,7 +118,7 @@ from-universal (disjunctive p q) r l h e = let z : _≡_ {A = ℕ} 0 1 = cc in a
 from-universal (existential q p) r l h e = let z : _≡_ {A = ℕ} 0 1 = cc in absurd (omega arith)
 
 -- the arms of the three rules: x is the class that was seen of the variable at place u, one of state s
-module _ {bs : List ℕ} {offset : ℕ} (sound : Sound bs offset) {s u : ℕ} {c : Counts} {ws : List ℕ} (room : Room c) (off : c .over ≡ false) (low : u < c .variables) (own : getD ws u 0 / 2048 ≡ s) {x : Class}
+module _ {bs : List ℕ} {offset : ℕ} (sound : Sound bs offset) {s u : ℕ} {c : Counts} {ws : List ℕ} (room : Room c) (off : c .over ≡ 0) (low : u < c .variables) (own : getD ws u 0 / 2048 ≡ s) {x : Class}
     (sees : Sees (tableOf bs) u ws x) where
   seen : (rule : ℕ → ℕ → class.Class → def.Build → def.Build) (root : ℕ) (o : Buffers) (st : List ℕ) (cs : List ℤ) (B : def.Build) → Shows o c (buffers st ws cs) B
       → (Q : def.Build → Type 0) → ((C : class.Class) → x ≡ classOf C → Smalls C → Q (rule s u C B)) → Q (by (plan (tableOf bs) root) rule s u B)

@@ -92,7 +92,7 @@ pub fn existential(
         × Indexed (out .variables) (now (words .exit)) (now (finder .exit)) (now (own .exit)) ⌝ }
 {
     let d = make(states, c, s, r, a);
-    if d.over {
+    if d.over != 0 {
         return d;
     }
     let x = ask(words, finder, own, d, d.states, l.key);
@@ -114,7 +114,7 @@ pub fn universal(
     r: usize,
     l: Ask,
 ) -> Counts
-    requires { ⌜ Room c × (a ≤ maxVariables) × (l .key < 2048) × (c .over ≡ false) ⌝ }
+    requires { ⌜ Room c × (a ≤ maxVariables) × (l .key < 2048) × (c .over ≡ 0) ⌝ }
     requires { ⌜ before ≤ c .states ⌝ }
     requires { ⌜ Indexed (c .variables) (now words) (now finder) (now own) ⌝ }
     requires { ⌜ Long (now states) (now words) (now clauses) ⌝ }
@@ -157,7 +157,7 @@ fn push(
         (buffers (now (states .entry)) (now (words .exit)) (now (clauses .exit)))
         × Indexed (out .variables) (now (words .exit)) (now (finder .exit)) (now (own .exit)) ⌝ }
 {
-    if c.over {
+    if c.over != 0 {
         return c;
     }
     let d = record_at(states, j);

@@ -42,7 +42,7 @@ pub fn fill(
 {
     clear(states, words, clauses);
     let d = run(book, offset, nodes, root, states, words, clauses);
-    if d.over {
+    if d.over != 0 {
         clear(states, words, clauses);
         return Built::Over;
     }

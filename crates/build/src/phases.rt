@@ -67,7 +67,7 @@ fn phase2(
         (buffers (now (states .exit)) (now (words .exit)) (now (clauses .exit)))
         × Indexed (r .variables) (now (words .exit)) (now (finder .exit)) (now (own .exit)) ⌝ }
 {
-    if c.over {
+    if c.over != 0 {
         return c;
     }
     let n = c.variables;
@@ -117,7 +117,7 @@ fn phase3(
         (buffers (now (states .entry)) (now (words .exit)) (now (clauses .exit)))
         × Indexed (r .variables) (now (words .exit)) (now (finder .exit)) (now (own .exit)) ⌝ }
 {
-    if c.over {
+    if c.over != 0 {
         return c;
     }
     if c.states == before {

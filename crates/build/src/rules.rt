@@ -48,7 +48,7 @@ pub fn rule1(
     ensures { λ r. ⌜ Asking (λ φ. def.by φ (def.rule1 φ) s v) (tableOf (now (book .entry))) c r (now (words .entry)) (now (words .exit)) (now (clauses .entry)) (now (clauses .exit))
         × Indexed (r .variables) (now (words .exit)) (now (finder .exit)) (now (own .exit)) ⌝ }
 {
-    if c.over {
+    if c.over != 0 {
         return c;
     }
     let class = role(book, offset, nodes, words, v);
@@ -84,7 +84,7 @@ pub fn rule2(
         (buffers (now (states .exit)) (now (words .exit)) (now (clauses .exit)))
         × Indexed (r .variables) (now (words .exit)) (now (finder .exit)) (now (own .exit)) ⌝ }
 {
-    if c.over {
+    if c.over != 0 {
         return c;
     }
     let class = role(book, offset, nodes, words, v);
@@ -133,7 +133,7 @@ pub fn rule3(
         (buffers (now (states .entry)) (now (words .exit)) (now (clauses .exit)))
         × Indexed (r .variables) (now (words .exit)) (now (finder .exit)) (now (own .exit)) ⌝ }
 {
-    if c.over {
+    if c.over != 0 {
         return c;
     }
     let class = role(book, offset, nodes, words, v);

@@ -62,7 +62,7 @@ pub fn run(
     let mut d = begin(book, offset, root, words, &mut finder, &mut own, clauses);
     let mut j: usize = 0;
     while j < d.states {
-        if d.over {
+        if d.over != 0 {
             return d;
         }
         d = expand(

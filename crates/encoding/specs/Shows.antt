@@ -21,7 +21,7 @@ use Rattle.encoding.specs.declared.making.Record.{Record}
 
 -- counts
 abbrev pub atStart : Counts
-atStart = record { states = 1; variables = 0; clauses = 0; over = false }
+atStart = record { states = 1; variables = 0; clauses = 0; over = 0 }
 
 abbrev pub withState : Counts → Counts
 withState c = record { states = c .states + 1; variables = c .variables; clauses = c .clauses; over = c .over }
@@ -33,7 +33,7 @@ abbrev pub withClause : Counts → Counts
 withClause c = record { states = c .states; variables = c .variables; clauses = c .clauses + 1; over = c .over }
 
 abbrev pub goneOver : Counts → Counts
-goneOver c = record { states = c .states; variables = c .variables; clauses = c .clauses; over = true }
+goneOver c = record { states = c .states; variables = c .variables; clauses = c .clauses; over = 1 }
 
 abbrev pub totalsOf : Counts → Build
 totalsOf c = record { states = c .states; variables = c .variables; clauses = c .clauses }
@@ -68,8 +68,8 @@ pub record Exact (c : Counts) (b : Buffers) (B : def.Build) : Type 0 where
 pub record Shows (o : Buffers) (c : Counts) (b : Buffers) (B : def.Build) : Type 0 where
   pub low-states : c .states ≤ states# B
   pub low-variables : c .variables ≤ variables# B
-  pub exact : c .over ≡ false → Exact c b B
-  pub over : c .over ≡ true → oversized B ≡ true
+  pub exact : c .over ≡ 0 → Exact c b B
+  pub over : (c .over ≡ 0 → ⊥) → oversized B ≡ true
   pub kept-states : Kept 0 (3 * maxStates) (o .states) (b .states)
   pub kept-words : Kept 0 maxVariables (o .words) (b .words)
   pub kept-clauses : Kept (pos 0) (3 * maxClauses) (o .clauses) (b .clauses)
@@ -81,7 +81,7 @@ Same n xs ys = (i : ℕ) → i < n → getD ys i 0 ≡ getD xs i 0
 -- the counts and words after some steps
 pub record Next (c r : Counts) (ws ws′ : List ℕ) : Type 0 where
   pub room : Room r
-  pub sticky : r .over ≡ false → c .over ≡ false
+  pub sticky : r .over ≡ 0 → c .over ≡ 0
   pub states : c .states ≤ r .states
   pub variables : c .variables ≤ r .variables
   pub stay : Same (c .variables) ws ws′
@@ -94,15 +94,15 @@ pub record Asks (c : Counts) (state key : ℕ) (ws ws′ : List ℕ) (r : Asked)
   pub does : (o : Buffers) (st : List ℕ) (cs : List ℤ) (B : def.Build) (l : Ask) → Small (l .key) → number (l .key) ≡ key
       → Shows o c (buffers st ws cs) B → Shows o (r .counts) (buffers st ws′ cs) (def.ask state l B)
   pub named : (o : Buffers) (st : List ℕ) (cs : List ℤ) (B : def.Build) (l : Ask) → Small (l .key) → number (l .key) ≡ key
-      → Shows o c (buffers st ws cs) B → r .counts .over ≡ false → r .variable ≡ suc (def.place state (l .key) (def.ask state l B .variables))
+      → Shows o c (buffers st ws cs) B → r .counts .over ≡ 0 → r .variable ≡ suc (def.place state (l .key) (def.ask state l B .variables))
 
 -- a clause written
 pub record Writes (c : Counts) (clause cs cs′ : List ℤ) (r : Counts) : Type 0 where
   pub room : Room r
-  pub sticky : r .over ≡ false → c .over ≡ false
+  pub sticky : r .over ≡ 0 → c .over ≡ 0
   pub states : r .states ≡ c .states
   pub variables : r .variables ≡ c .variables
-  pub does : (o : Buffers) (st ws : List ℕ) (B : def.Build) (k : Clause) → length k ≡ 3 → (c .over ≡ false → clause ≡ k)
+  pub does : (o : Buffers) (st ws : List ℕ) (B : def.Build) (k : Clause) → length k ≡ 3 → (c .over ≡ 0 → clause ≡ k)
       → Shows o c (buffers st ws cs) B → Shows o r (buffers st ws cs′) (def.write k B)
 
 -- the record of the state at place j
@@ -126,9 +126,9 @@ pub record Made (s : ℕ) (c r : Counts) (st st′ : List ℕ) : Type 0 where
 -- a state made
 pub record Makes (c : Counts) (s q p : ℕ) (st st′ : List ℕ) (r : Counts) : Type 0 where
   pub room : Room r
-  pub sticky : r .over ≡ false → c .over ≡ false
+  pub sticky : r .over ≡ 0 → c .over ≡ 0
   pub states : c .states ≤ r .states
-  pub more : r .over ≡ false → r .states ≡ c .states + 1
+  pub more : r .over ≡ 0 → r .states ≡ c .states + 1
   pub variables : r .variables ≡ c .variables
   pub made : Made s c r st st′
   pub does : (o : Buffers) (ws : List ℕ) (cs : List ℤ) (B : def.Build)

@@ -13,12 +13,12 @@ pub struct Build {
     pub clauses: usize,
 }
 
-// The counts of a running build, and whether it has gone over a limit.
+// The counts of a running build; `over` is 0 until it goes over a limit. A whole word, for a record with padding is slow to hand on.
 pub struct Counts {
     pub states: usize,
     pub variables: usize,
     pub clauses: usize,
-    pub over: bool,
+    pub over: usize,
 }
 
 impl Build {
@@ -42,7 +42,7 @@ impl Build {
             states: 1,
             variables: 0,
             clauses: 0,
-            over: false,
+            over: 0,
         }
     }
 
@@ -103,7 +103,7 @@ impl Counts {
             states: self.states,
             variables: self.variables,
             clauses: self.clauses,
-            over: true,
+            over: 1,
         }
     }
 

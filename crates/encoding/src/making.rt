@@ -31,7 +31,7 @@ pub fn make(states: &mut [u16], c: Counts, parent: usize, relation: usize, maker
     requires { ⌜ Room c × (parent ≤ maxStates) × (relation < 16) × (maker ≤ maxVariables) × (3 * maxStates ≤ length (now states)) ⌝ }
     ensures { λ r. ⌜ Makes c parent relation maker (now (states .entry)) (now (states .exit)) r ⌝ }
 {
-    if c.over {
+    if c.over != 0 {
         return c;
     }
     let n = c.states;

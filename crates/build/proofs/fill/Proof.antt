@@ -24,7 +24,13 @@ run-requires c κs =
     (d .pre .0, (d .pre .1 .0, ((omega (arith, long .0, kept .0), omega (arith, long .1, kept .1 .0), omega (arith, long .2, kept .1 .1 .0)), (cleared-low (k .clear .ensures), cleared-parents (k .clear .ensures)))))
 
 clear-requires-2 : tie.Need-clear-requires-2
-clear-requires-2 c κs = search needs
+clear-requires-2 c κs =
+    let r = c .before .before .before .before .before .before .before .before .before .before in
+    let k = r .before .before .before .before .before .before .before .before .before in
+    let same = r .run .kept .1 .1 .1 .1 in
+    let kept = k .clear .kept in
+    let long = k .before .before .before .before .before .before .before .pre .1 .1 in
+    (omega (arith, long .0, kept .0, same .0), omega (arith, long .1, kept .1 .0, same .1 .0), omega (arith, long .2, kept .1 .1 .0, same .1 .1 .0))
 
 same-length : tie.Need-same-length
 same-length c = search needs
@@ -37,7 +43,7 @@ same-length-3 c = search needs
 
 returns : tie.Need-returns
 returns c =
-    let r = c .before .before .before .before .before .before .before .before .before .before .before .before .before .before .before in
+    let r = c .before .before .before .before .before .before .before .before .before .before .before .before .before .before .before .before in
     let k = r .before .before .before .before .before .before .before .before .before in
     let d = k .before .before .before .before .before .before .before in
     let a = d .args in
@@ -62,7 +68,7 @@ same-length-6 c = search needs
 
 returns-2 : tie.Need-returns-2
 returns-2 c =
-    let r = c .before .before .before .before .before .before .before in
+    let r = c .before .before .before .before .before .before .before .before in
     let k = r .before .before .before .before .before .before .before .before .before in
     let d = k .before .before .before .before .before .before .before in
     let a = d .args in

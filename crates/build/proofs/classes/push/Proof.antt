@@ -12,7 +12,7 @@ use Rattle.build.proofs.classes.push.Tie as tie
 
 returns : tie.Need-returns
 returns c =
-    let d = c .before .before .before .before .before in
+    let d = c .before .before .before .before .before .before in
     let a = d .args in
     (over-pushes (d .pre .0 .0) (c .if1 .taken) (λ φ v p B. push-less φ (a .s) v (a .r) p (a .j) B), d .pre .1 .0)
 
@@ -27,13 +27,13 @@ ask-requires c κs = search needs
 
 three-requires : tie.Need-three-requires
 three-requires c κs =
-    let d = c .before .before .before .before .before .before .before .before .before .before .before .before .before .before .before .before .before .before .before .before .before in
+    let d = c .before .before .before .before .before .before .before .before .before .before .before .before .before .before .before .before .before .before .before .before .before .before in
     let m = d .pre .1 .1 .1 (3 * d .args .j + 2) (omega (arith, d .pre .0 .3, d .pre .0 .0 .states)) in
     (omega (arith, d .pre .0 .1), omega (arith, m, ap (λ (z : Record). z .maker) (c .before .before .before .before .before .before .before .before .before .before .before .before .before .before .before .record-at .ensures)), omega (arith, c .before .before .before .before .before .before .before .ask .ensures .0 .variable))
 
 write-requires : tie.Need-write-requires
 write-requires c κs =
-    (c .before .before .before .before .before .before .before .before .ask .ensures .0 .next .room, c .before .before .before .before .before .before .before .before .before .before .before .before .before .before .before .before .before .before .before .before .before .before .pre .1 .1 .0 .2)
+    (c .before .before .before .before .before .before .before .before .ask .ensures .0 .next .room, c .before .before .before .before .before .before .before .before .before .before .before .before .before .before .before .before .before .before .before .before .before .before .before .pre .1 .1 .0 .2)
 
 same-length : tie.Need-same-length
 same-length c = search needs
@@ -49,7 +49,7 @@ same-length-4 c = search needs
 
 returns-2 : tie.Need-returns-2
 returns-2 c =
-    let d = c .before .before .before .before .before .before .before .before .before .before .before .before .before .before .before .before .before .before .before .before .before .before .before .before in
+    let d = c .before .before .before .before .before .before .before .before .before .before .before .before .before .before .before .before .before .before .before .before .before .before .before .before .before in
     let x = c .before .before .before .before .before .before .before .before .before .before .ask .ensures in
     let w = c .before .write .ensures in (
       push-does (c .before .before .before .before .before .before .before .before .before .before .before .before .before .before .before .before .before .before .record-at .ensures) (d .pre .0 .0) (c .before .before .before .before .before .before .before .before .before .before .before .before .before .before .before .before .before .before .before .if1 .left) (d .pre .0 .3) (c .before .before .before .before .before .before .before .before .before .before .before .before .before .before .before .before .if2 .taken) (c .before .before .before .before .before .before .before .before .before .before .before .before .before .before .if3 .taken) (x .0) w (c .before .before .three .ensures),
@@ -58,12 +58,12 @@ returns-2 c =
 
 returns-3 : tie.Need-returns-3
 returns-3 c =
-    let d = c .before .before .before .before .before .before .before .before .before .before in
+    let d = c .before .before .before .before .before .before .before .before .before .before .before in
     (push-skips (c .before .before .before .before .record-at .ensures) (d .pre .0 .0) (c .before .before .before .before .before .if1 .left) (d .pre .0 .3) (λ x y. c .if3 .left y), d .pre .1 .0)
 
 returns-4 : tie.Need-returns-4
 returns-4 c =
-    let d = c .before .before .before .before .before .before .before .before in
+    let d = c .before .before .before .before .before .before .before .before .before in
     (push-skips (c .before .before .record-at .ensures) (d .pre .0 .0) (c .before .before .before .if1 .left) (d .pre .0 .3) (λ x y. c .if2 .left x), d .pre .1 .0)
 
 pub push-spec : {M : Type 1} → statement M

@@ -25,17 +25,17 @@ abbrev μ-loop : tie.MeasureT-loop
 
 returns : tie.Need-returns Inv-loop μ-loop
 returns c =
-    let d = c .before .before .before .before .before .before in
+    let d = c .before .before .before .before .before .before .before in
     (over-making (d .pre .1 .0 .0) (c .if1 .taken) (λ φ. phase2-less φ (d .args .s)), d .pre .1 .1 .0)
 
 first-of-requires : tie.Need-first-of-requires Inv-loop μ-loop
 first-of-requires c κs =
-    let d = c .before .before .before .before .before .before .before in
+    let d = c .before .before .before .before .before .before .before .before in
     (omega (arith, d .pre .1 .0 .1, d .pre .1 .0 .0 .states), d .pre .1 .1 .0 .listed .long)
 
 loop-holds : tie.Need-loop-holds Inv-loop μ-loop
 loop-holds c =
-    let d = c .before .before .before .before .before .before .before .before in
+    let d = c .before .before .before .before .before .before .before .before .before in
     let a = d .args in
     let f = c .first-of .ensures (a .words .now) (d .pre .1 .1 .0 .listed) in (
       f .0,
@@ -52,7 +52,7 @@ loop-holds c =
 
 rule2-requires : tie.Need-rule2-requires Inv-loop μ-loop
 rule2-requires c κs =
-    let d = c .before .before .before .before .before .before .before .before .before .before .before .before .before .before .before in
+    let d = c .before .before .before .before .before .before .before .before .before .before .before .before .before .before .before .before in
     let inv = c .before .before .before .before .before .before .loop .inv in
     let next = inv .1 .next in
     let long = d .pre .1 .1 .1 in
@@ -66,7 +66,7 @@ rule2-requires c κs =
 
 next-of-requires : tie.Need-next-of-requires Inv-loop μ-loop
 next-of-requires c κs =
-    (c .before .before .before .before .before .before .before .before .before .before .before .before .before .before .before .before .loop-test .taken, c .before .before .before .before .before .before .before .before .before .before .before .before .before .before .before .before .before .before .before .before .before .before .before .before .before .before .pre .1 .0 .0 .variables, c .before .before .before .before .before .before .before .before .before .before .rule2 .ensures .1 .listed .long)
+    (c .before .before .before .before .before .before .before .before .before .before .before .before .before .before .before .before .loop-test .taken, c .before .before .before .before .before .before .before .before .before .before .before .before .before .before .before .before .before .before .before .before .before .before .before .before .before .before .before .pre .1 .0 .0 .variables, c .before .before .before .before .before .before .before .before .before .before .rule2 .ensures .1 .listed .long)
 
 loop-less : tie.Need-loop-less Inv-loop μ-loop
 loop-less c =
@@ -76,7 +76,7 @@ loop-less c =
 
 loop-again : tie.Need-loop-again Inv-loop μ-loop
 loop-again c =
-    let a = c .before .before .before .before .before .before .before .before .before .before .before .before .before .before .before .before .before .before .before .before .before .before .before .before .before .before .before .args in
+    let a = c .before .before .before .before .before .before .before .before .before .before .before .before .before .before .before .before .before .before .before .before .before .before .before .before .before .before .before .before .args in
     let l = c .before .before .before .before .before .before .before .before .before .before .before .before .before .before .before .before .before .before .loop in
     let inv = l .inv in
     let y = c .before .before .before .before .before .before .before .before .before .before .before .rule2 in
@@ -122,7 +122,7 @@ same-length-5 c =
 
 returns-2 : tie.Need-returns-2 Inv-loop μ-loop
 returns-2 c =
-    let a = c .before .before .before .before .before .before .before .before .before .before .args in
+    let a = c .before .before .before .before .before .before .before .before .before .before .before .args in
     let inv = c .before .loop .inv in (
       record { moves = inv .1; does = λ root o B sh. ends2 (plan (tableOf (a .book .now)) root) (a .s) B (c .before .before .before .before .if1 .left) sh (omega (arith, inv .0, c .loop-test .left)) (inv .9 root o B sh) },
       inv .7,

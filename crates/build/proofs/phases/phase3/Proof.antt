@@ -25,22 +25,22 @@ abbrev μ-loop : tie.MeasureT-loop
 
 returns : tie.Need-returns Inv-loop μ-loop
 returns c =
-    let d = c .before .before .before .before .before .before in
+    let d = c .before .before .before .before .before .before .before in
     (over-pushing (d .pre .1 .0 .0) (c .if1 .taken) (λ φ. phase3-less φ (d .args .s)), d .pre .1 .1 .0)
 
 returns-2 : tie.Need-returns-2 Inv-loop μ-loop
 returns-2 c =
-    let d = c .before .before .before .before .before .before .before .before in
+    let d = c .before .before .before .before .before .before .before .before .before in
     (childless (d .pre .1 .0 .0) (c .before .before .if1 .left) (c .if2 .taken) (d .pre .1 .1 .1 .1 .1), d .pre .1 .1 .0)
 
 first-of-requires : tie.Need-first-of-requires Inv-loop μ-loop
 first-of-requires c κs =
-    let d = c .before .before .before .before .before .before .before .before .before in
+    let d = c .before .before .before .before .before .before .before .before .before .before in
     (omega (arith, d .pre .1 .0 .1, d .pre .1 .0 .0 .states), d .pre .1 .1 .0 .listed .long)
 
 loop-holds : tie.Need-loop-holds Inv-loop μ-loop
 loop-holds c =
-    let d = c .before .before .before .before .before .before .before .before .before .before in
+    let d = c .before .before .before .before .before .before .before .before .before .before .before in
     let a = d .args in
     let f = c .first-of .ensures (a .words .now) (d .pre .1 .1 .0 .listed) in (
       f .0,
@@ -56,7 +56,7 @@ loop-holds c =
 
 rule3-requires : tie.Need-rule3-requires Inv-loop μ-loop
 rule3-requires c κs =
-    let d = c .before .before .before .before .before .before .before .before .before .before .before .before .before .before .before .before in
+    let d = c .before .before .before .before .before .before .before .before .before .before .before .before .before .before .before .before .before in
     let inv = c .before .before .before .before .before .loop .inv in
     let next = inv .1 .next in
     let long = d .pre .1 .1 .1 .0 in
@@ -70,7 +70,7 @@ rule3-requires c κs =
 
 next-of-requires : tie.Need-next-of-requires Inv-loop μ-loop
 next-of-requires c κs =
-    (c .before .before .before .before .before .before .before .before .before .before .before .before .before .loop-test .taken, c .before .before .before .before .before .before .before .before .before .before .before .before .before .before .before .before .before .before .before .before .before .before .before .before .before .pre .1 .0 .0 .variables, c .before .before .before .before .before .before .before .before .rule3 .ensures .1 .listed .long)
+    (c .before .before .before .before .before .before .before .before .before .before .before .before .before .loop-test .taken, c .before .before .before .before .before .before .before .before .before .before .before .before .before .before .before .before .before .before .before .before .before .before .before .before .before .before .pre .1 .0 .0 .variables, c .before .before .before .before .before .before .before .before .rule3 .ensures .1 .listed .long)
 
 loop-less : tie.Need-loop-less Inv-loop μ-loop
 loop-less c =
@@ -80,7 +80,7 @@ loop-less c =
 
 loop-again : tie.Need-loop-again Inv-loop μ-loop
 loop-again c =
-    let a = c .before .before .before .before .before .before .before .before .before .before .before .before .before .before .before .before .before .before .before .before .before .before .before .before .before .before .args in
+    let a = c .before .before .before .before .before .before .before .before .before .before .before .before .before .before .before .before .before .before .before .before .before .before .before .before .before .before .before .args in
     let l = c .before .before .before .before .before .before .before .before .before .before .before .before .before .before .before .loop in
     let inv = l .inv in
     let y = c .before .before .before .before .before .before .before .before .before .rule3 in
@@ -121,7 +121,7 @@ same-length-4 c =
 
 returns-3 : tie.Need-returns-3 Inv-loop μ-loop
 returns-3 c =
-    let a = c .before .before .before .before .before .before .before .before .before .before .before .before .args in
+    let a = c .before .before .before .before .before .before .before .before .before .before .before .before .before .args in
     let inv = c .before .loop .inv in (
       record { stays = inv .1; does = λ root o B sh. ends3 (plan (tableOf (a .book .now)) root) (a .s) B (c .before .before .before .before .before .before .if1 .left) sh (omega (arith, inv .0, c .loop-test .left)) (inv .8 root o B sh) },
       inv .6,

@@ -10,11 +10,13 @@ use Rattle.build.proofs.rules.rule1.Tie as tie
 
 returns : tie.Need-returns
 returns c =
-    let d = c .before .before .before .before .before in
+    let d = c .before .before .before .before .before .before in
     (over-asking (d .pre .1 .0 .0) (c .if1 .taken) (λ φ. by1-less φ (d .args .s) (d .args .v)), d .pre .1 .1 .0 .1)
 
 role-requires : tie.Need-role-requires
-role-requires c κs = search needs
+role-requires c κs =
+    let d = c .before .before .before .before .before .before .before in
+    (d .pre .0, omega (arith, d .pre .1 .0 .2, d .pre .1 .0 .0 .variables, d .pre .1 .1 .1 .0))
 
 enum-known-class : tie.Need-enum-known-class
 enum-known-class c = search needs
@@ -24,7 +26,7 @@ add-conjunctive c = search needs
 
 conjunctive-requires : tie.Need-conjunctive-requires
 conjunctive-requires c κs =
-    let d = c .before .before .before .before .before .before .before .before .before .before .before .before .before .before in
+    let d = c .before .before .before .before .before .before .before .before .before .before .before .before .before .before .before in
     let t = tame-conjunctive (c .before .before .before .before .before .before .before .role .ensures) (c .before .before .before .before .before .class .given .1) in
     ((d .pre .1 .0 .0, d .pre .1 .0 .1, omega (arith, d .pre .1 .0 .0 .variables, d .pre .1 .0 .2), t .0, t .1), (d .pre .1 .1 .0 .1, d .pre .1 .1 .1))
 
@@ -36,7 +38,7 @@ add-disjunctive c = search needs
 
 disjunctive-requires : tie.Need-disjunctive-requires
 disjunctive-requires c κs =
-    let d = c .before .before .before .before .before .before .before .before .before .before .before .before .before .before in
+    let d = c .before .before .before .before .before .before .before .before .before .before .before .before .before .before .before in
     let t = tame-disjunctive (c .before .before .before .before .before .before .before .role .ensures) (c .before .before .before .before .before .class2 .given .1) in
     ((d .pre .1 .0 .0, d .pre .1 .0 .1, omega (arith, d .pre .1 .0 .0 .variables, d .pre .1 .0 .2), t .0, t .1), (d .pre .1 .1 .0 .1, d .pre .1 .1 .1))
 
@@ -63,7 +65,7 @@ same-length-4 c = search needs
 
 returns-2 : tie.Need-returns-2
 returns-2 c =
-    let d = c .before .before .before .before .before .before .before .before .before .before .before .before .before .before .before .before .before .before .before .before .before .before in
+    let d = c .before .before .before .before .before .before .before .before .before .before .before .before .before .before .before .before .before .before .before .before .before .before .before in
     let y = c .before .before .before .before .before .before .before .conjunctive .ensures in
     (arm-conjunctive (d .pre .0 .0) (d .pre .1 .0 .0) (c .before .before .before .before .before .before .before .before .before .before .before .before .before .before .before .before .before .if1 .left) (d .pre .1 .0 .2) (d .pre .1 .1 .0 .0) (c .before .before .before .before .before .before .before .before .before .before .before .before .before .before .before .role .ensures) (c .before .before .before .before .before .before .before .before .before .before .before .before .before .class .given .1) (y .0), y .1)
 
@@ -81,7 +83,7 @@ same-length-8 c = search needs
 
 returns-3 : tie.Need-returns-3
 returns-3 c =
-    let d = c .before .before .before .before .before .before .before .before .before .before .before .before .before .before .before .before .before .before .before .before .before .before in
+    let d = c .before .before .before .before .before .before .before .before .before .before .before .before .before .before .before .before .before .before .before .before .before .before .before in
     let y = c .before .before .before .before .before .before .before .disjunctive .ensures in
     (arm-disjunctive (d .pre .0 .0) (d .pre .1 .0 .0) (c .before .before .before .before .before .before .before .before .before .before .before .before .before .before .before .before .before .if1 .left) (d .pre .1 .0 .2) (d .pre .1 .1 .0 .0) (c .before .before .before .before .before .before .before .before .before .before .before .before .before .before .before .role .ensures) (c .before .before .before .before .before .before .before .before .before .before .before .before .before .class2 .given .1) (y .0), y .1)
 
@@ -91,7 +93,7 @@ same-length-9 c = search needs
 returns-4 : tie.Need-returns-4
 unfolding kind
 returns-4 c =
-    let d = c .before .before .before .before .before .before .before .before .before in
+    let d = c .before .before .before .before .before .before .before .before .before .before in
     (rests1 (d .pre .0 .0) (d .pre .1 .0 .0) (c .before .before .before .before .if1 .left) (d .pre .1 .0 .2) (d .pre .1 .1 .0 .0) (c .before .before .role .ensures) 0 (ap kind (c .enum-told .given .1)) (λ q. omega arith) (λ q. omega arith), d .pre .1 .1 .0 .1)
 
 same-length-10 : tie.Need-same-length-10
@@ -100,7 +102,7 @@ same-length-10 c = search needs
 returns-5 : tie.Need-returns-5
 unfolding kind
 returns-5 c =
-    let d = c .before .before .before .before .before .before .before .before .before in
+    let d = c .before .before .before .before .before .before .before .before .before .before in
     (rests1 (d .pre .0 .0) (d .pre .1 .0 .0) (c .before .before .before .before .if1 .left) (d .pre .1 .0 .2) (d .pre .1 .1 .0 .0) (c .before .before .role .ensures) 3 (ap kind (c .enum-told2 .given .1)) (λ q. omega arith) (λ q. omega arith), d .pre .1 .1 .0 .1)
 
 same-length-11 : tie.Need-same-length-11
@@ -109,7 +111,7 @@ same-length-11 c = search needs
 returns-6 : tie.Need-returns-6
 unfolding kind
 returns-6 c =
-    let d = c .before .before .before .before .before .before .before .before .before in
+    let d = c .before .before .before .before .before .before .before .before .before .before in
     (rests1 (d .pre .0 .0) (d .pre .1 .0 .0) (c .before .before .before .before .if1 .left) (d .pre .1 .0 .2) (d .pre .1 .1 .0 .0) (c .before .before .role .ensures) 4 (ap kind (c .enum-told3 .given .1)) (λ q. omega arith) (λ q. omega arith), d .pre .1 .1 .0 .1)
 
 pub rule1-spec : {M : Type 1} → statement M

@@ -10,11 +10,13 @@ use Rattle.build.proofs.rules.rule2.Tie as tie
 
 returns : tie.Need-returns
 returns c =
-    let d = c .before .before .before .before .before .before in
+    let d = c .before .before .before .before .before .before .before in
     (over-making (d .pre .1 .0 .0) (c .if1 .taken) (λ φ. by2-less φ (d .args .s) (d .args .v)), d .pre .1 .1 .0 .1)
 
 role-requires : tie.Need-role-requires
-role-requires c κs = search needs
+role-requires c κs =
+    let d = c .before .before .before .before .before .before .before .before in
+    (d .pre .0, omega (arith, d .pre .1 .0 .2, d .pre .1 .0 .0 .variables, d .pre .1 .1 .1 .1))
 
 enum-known-class : tie.Need-enum-known-class
 enum-known-class c = search needs
@@ -24,7 +26,7 @@ add-existential c = search needs
 
 existential-requires : tie.Need-existential-requires
 existential-requires c κs =
-    let d = c .before .before .before .before .before .before .before .before .before .before .before .before .before .before .before .before in
+    let d = c .before .before .before .before .before .before .before .before .before .before .before .before .before .before .before .before .before in
     let t = tame-existential (c .before .before .before .before .before .before .before .before .role .ensures) (c .before .before .before .before .before .before .class .given .1) in
     ((d .pre .1 .0 .0, d .pre .1 .0 .1, omega (arith, d .pre .1 .0 .0 .variables, d .pre .1 .0 .2), t .0, t .1), (d .pre .1 .1 .0 .1, d .pre .1 .1 .1))
 
@@ -57,7 +59,7 @@ same-length-5 c = search needs
 
 returns-2 : tie.Need-returns-2
 returns-2 c =
-    let d = c .before .before .before .before .before .before .before .before .before .before .before .before .before .before .before .before .before .before .before .before .before .before .before .before .before .before in
+    let d = c .before .before .before .before .before .before .before .before .before .before .before .before .before .before .before .before .before .before .before .before .before .before .before .before .before .before .before in
     let y = c .before .before .before .before .before .before .before .before .before .existential .ensures in
     (arm-existential (d .pre .0 .0) (d .pre .1 .0 .0) (c .before .before .before .before .before .before .before .before .before .before .before .before .before .before .before .before .before .before .before .before .if1 .left) (d .pre .1 .0 .2) (d .pre .1 .1 .0 .0) (c .before .before .before .before .before .before .before .before .before .before .before .before .before .before .before .before .before .before .role .ensures) (c .before .before .before .before .before .before .before .before .before .before .before .before .before .before .before .before .class .given .1) (y .0), y .1)
 
@@ -67,7 +69,7 @@ same-length-6 c = search needs
 returns-3 : tie.Need-returns-3
 unfolding kind
 returns-3 c =
-    let d = c .before .before .before .before .before .before .before .before .before .before in
+    let d = c .before .before .before .before .before .before .before .before .before .before .before in
     (rests2 (d .pre .0 .0) (d .pre .1 .0 .0) (c .before .before .before .before .if1 .left) (d .pre .1 .0 .2) (d .pre .1 .1 .0 .0) (c .before .before .role .ensures) 0 (ap kind (c .enum-told .given .1)) (λ q. omega arith), d .pre .1 .1 .0 .1)
 
 same-length-7 : tie.Need-same-length-7
@@ -76,7 +78,7 @@ same-length-7 c = search needs
 returns-4 : tie.Need-returns-4
 unfolding kind
 returns-4 c =
-    let d = c .before .before .before .before .before .before .before .before .before .before in
+    let d = c .before .before .before .before .before .before .before .before .before .before .before in
     (rests2 (d .pre .0 .0) (d .pre .1 .0 .0) (c .before .before .before .before .if1 .left) (d .pre .1 .0 .2) (d .pre .1 .1 .0 .0) (c .before .before .role .ensures) 1 (ap kind (c .enum-told2 .given .1)) (λ q. omega arith), d .pre .1 .1 .0 .1)
 
 same-length-8 : tie.Need-same-length-8
@@ -85,7 +87,7 @@ same-length-8 c = search needs
 returns-5 : tie.Need-returns-5
 unfolding kind
 returns-5 c =
-    let d = c .before .before .before .before .before .before .before .before .before .before in
+    let d = c .before .before .before .before .before .before .before .before .before .before .before in
     (rests2 (d .pre .0 .0) (d .pre .1 .0 .0) (c .before .before .before .before .if1 .left) (d .pre .1 .0 .2) (d .pre .1 .1 .0 .0) (c .before .before .role .ensures) 2 (ap kind (c .enum-told3 .given .1)) (λ q. omega arith), d .pre .1 .1 .0 .1)
 
 same-length-9 : tie.Need-same-length-9
@@ -94,7 +96,7 @@ same-length-9 c = search needs
 returns-6 : tie.Need-returns-6
 unfolding kind
 returns-6 c =
-    let d = c .before .before .before .before .before .before .before .before .before .before in
+    let d = c .before .before .before .before .before .before .before .before .before .before .before in
     (rests2 (d .pre .0 .0) (d .pre .1 .0 .0) (c .before .before .before .before .if1 .left) (d .pre .1 .0 .2) (d .pre .1 .1 .0 .0) (c .before .before .role .ensures) 4 (ap kind (c .enum-told4 .given .1)) (λ q. omega arith), d .pre .1 .1 .0 .1)
 
 pub rule2-spec : {M : Type 1} → statement M

@@ -10,11 +10,13 @@ use Rattle.build.proofs.rules.rule3.Tie as tie
 
 returns : tie.Need-returns
 returns c =
-    let d = c .before .before .before .before .before .before in
+    let d = c .before .before .before .before .before .before .before in
     (over-pushing (d .pre .1 .0 .0) (c .if1 .taken) (λ φ. by3-less φ (d .args .s) (d .args .v)), d .pre .1 .1 .0 .1)
 
 role-requires : tie.Need-role-requires
-role-requires c κs = search needs
+role-requires c κs =
+    let d = c .before .before .before .before .before .before .before .before in
+    (d .pre .0, omega (arith, d .pre .1 .0 .1, d .pre .1 .0 .0 .variables, d .pre .1 .1 .1 .0 .1))
 
 enum-known-class : tie.Need-enum-known-class
 enum-known-class c = search needs
@@ -24,7 +26,7 @@ add-universal c = search needs
 
 universal-requires : tie.Need-universal-requires
 universal-requires c κs =
-    let d = c .before .before .before .before .before .before .before .before .before .before .before .before .before .before .before in
+    let d = c .before .before .before .before .before .before .before .before .before .before .before .before .before .before .before .before in
     let t = tame-universal (c .before .before .before .before .before .before .before .role .ensures) (c .before .before .before .before .before .class .given .1) in
     ((d .pre .1 .0 .0, omega (arith, d .pre .1 .0 .0 .variables, d .pre .1 .0 .1), t .1, c .before .before .before .before .before .before .before .before .before .if1 .left), (d .pre .1 .0 .2, (d .pre .1 .1 .0 .1, d .pre .1 .1 .1)))
 
@@ -54,7 +56,7 @@ same-length-4 c = search needs
 
 returns-2 : tie.Need-returns-2
 returns-2 c =
-    let d = c .before .before .before .before .before .before .before .before .before .before .before .before .before .before .before .before .before .before .before .before .before .before .before in
+    let d = c .before .before .before .before .before .before .before .before .before .before .before .before .before .before .before .before .before .before .before .before .before .before .before .before in
     let y = c .before .before .before .before .before .before .before .universal .ensures in
     (arm-universal (d .pre .0 .0) (d .pre .1 .0 .0) (c .before .before .before .before .before .before .before .before .before .before .before .before .before .before .before .before .before .if1 .left) (d .pre .1 .0 .1) (d .pre .1 .1 .0 .0) (c .before .before .before .before .before .before .before .before .before .before .before .before .before .before .before .role .ensures) (c .before .before .before .before .before .before .before .before .before .before .before .before .before .class .given .1) (y .0), y .1)
 
@@ -64,7 +66,7 @@ same-length-5 c = search needs
 returns-3 : tie.Need-returns-3
 unfolding kind
 returns-3 c =
-    let d = c .before .before .before .before .before .before .before .before .before .before in
+    let d = c .before .before .before .before .before .before .before .before .before .before .before in
     (rests3 (d .pre .0 .0) (d .pre .1 .0 .0) (c .before .before .before .before .if1 .left) (d .pre .1 .0 .1) (d .pre .1 .1 .0 .0) (c .before .before .role .ensures) 0 (ap kind (c .enum-told .given .1)) (λ q. omega arith), d .pre .1 .1 .0 .1)
 
 same-length-6 : tie.Need-same-length-6
@@ -73,7 +75,7 @@ same-length-6 c = search needs
 returns-4 : tie.Need-returns-4
 unfolding kind
 returns-4 c =
-    let d = c .before .before .before .before .before .before .before .before .before .before in
+    let d = c .before .before .before .before .before .before .before .before .before .before .before in
     (rests3 (d .pre .0 .0) (d .pre .1 .0 .0) (c .before .before .before .before .if1 .left) (d .pre .1 .0 .1) (d .pre .1 .1 .0 .0) (c .before .before .role .ensures) 1 (ap kind (c .enum-told2 .given .1)) (λ q. omega arith), d .pre .1 .1 .0 .1)
 
 same-length-7 : tie.Need-same-length-7
@@ -82,7 +84,7 @@ same-length-7 c = search needs
 returns-5 : tie.Need-returns-5
 unfolding kind
 returns-5 c =
-    let d = c .before .before .before .before .before .before .before .before .before .before in
+    let d = c .before .before .before .before .before .before .before .before .before .before .before in
     (rests3 (d .pre .0 .0) (d .pre .1 .0 .0) (c .before .before .before .before .if1 .left) (d .pre .1 .0 .1) (d .pre .1 .1 .0 .0) (c .before .before .role .ensures) 2 (ap kind (c .enum-told3 .given .1)) (λ q. omega arith), d .pre .1 .1 .0 .1)
 
 same-length-8 : tie.Need-same-length-8
@@ -91,7 +93,7 @@ same-length-8 c = search needs
 returns-6 : tie.Need-returns-6
 unfolding kind
 returns-6 c =
-    let d = c .before .before .before .before .before .before .before .before .before .before in
+    let d = c .before .before .before .before .before .before .before .before .before .before .before in
     (rests3 (d .pre .0 .0) (d .pre .1 .0 .0) (c .before .before .before .before .if1 .left) (d .pre .1 .0 .1) (d .pre .1 .1 .0 .0) (c .before .before .role .ensures) 3 (ap kind (c .enum-told4 .given .1)) (λ q. omega arith), d .pre .1 .1 .0 .1)
 
 pub rule3-spec : {M : Type 1} → statement M

@@ -59,60 +59,60 @@ loop-holds c =
 
 same-length : tie.Need-same-length Inv-loop μ-loop
 same-length c =
-    c .before .before .before .loop .inv .3
+    c .before .before .before .before .loop .inv .3
 
 same-length-2 : tie.Need-same-length-2 Inv-loop μ-loop
 same-length-2 c =
-    c .before .before .before .loop .inv .4 ∙ c .before .before .before .before .before .before .before .before .before .begin .kept .1 .1 .1 .0
+    c .before .before .before .before .loop .inv .4 ∙ c .before .before .before .before .before .before .before .before .before .before .begin .kept .1 .1 .1 .0
 
 same-length-3 : tie.Need-same-length-3 Inv-loop μ-loop
 same-length-3 c =
-    c .before .before .before .loop .inv .5 ∙ c .before .before .before .before .before .before .before .before .before .begin .kept .1 .1 .1 .1 .1 .1 .0
+    c .before .before .before .before .loop .inv .5 ∙ c .before .before .before .before .before .before .before .before .before .before .begin .kept .1 .1 .1 .1 .1 .1 .0
 
 returns : tie.Need-returns Inv-loop μ-loop
 unfolding built
 returns c =
-    let a = c .before .before .before .before .before .before .before .before .before .before .before .before .before .before .before .before .before .args in
-    let l = c .before .before .before .loop in
+    let a = c .before .before .before .before .before .before .before .before .before .before .before .before .before .before .before .before .before .before .args in
+    let l = c .before .before .before .before .loop in
     let φ = plan (tableOf (a .book .now)) (a .root) in
     record {
       room = l .inv .1;
       does = λ o P sh.
-          let i = l .inv .8 o P (c .before .before .before .before .before .before .before .before .before .begin .ensures .0 .does o (a .states .now) sh) in
+          let i = l .inv .8 o P (c .before .before .before .before .before .before .before .before .before .before .begin .ensures .0 .does o (a .states .now) sh) in
           settles-over (expand φ) states# (l .j) (start (φ .root)) (build φ) (P .whole) (i .1) (i .0) (c .if2 .taken);
     }
 
 slice-aggregate-expand : tie.Need-slice-aggregate-expand Inv-loop μ-loop
 slice-aggregate-expand c =
-    sym (c .before .before .before .before .before .before .loop .inv .2 .chained .long)
+    sym (c .before .before .before .before .before .before .before .loop .inv .2 .chained .long)
 
 slice-aggregate-expand-2 : tie.Need-slice-aggregate-expand-2 Inv-loop μ-loop
 slice-aggregate-expand-2 c =
-    sym (c .before .before .before .before .before .before .before .loop .inv .2 .listed .long)
+    sym (c .before .before .before .before .before .before .before .before .loop .inv .2 .listed .long)
 
 expand-requires : tie.Need-expand-requires Inv-loop μ-loop
 expand-requires c κs =
-    let d = c .before .before .before .before .before .before .before .before .before .before .before .before .before .before .before .before .before .before .before .before .before .before in
-    let inv = c .before .before .before .before .before .before .before .before .loop .inv in
+    let d = c .before .before .before .before .before .before .before .before .before .before .before .before .before .before .before .before .before .before .before .before .before .before .before in
+    let inv = c .before .before .before .before .before .before .before .before .before .loop .inv in
     let long = d .pre .1 .1 .0 in
-    let kept = c .before .before .before .before .before .before .before .before .before .before .before .before .before .before .begin .kept .1 .1 .1 in
-    (d .pre .0, ((inv .1, c .before .before .before .before .before .before .if1 .taken), (inv .2, ((omega (arith, long .0, inv .3), omega (arith, long .1, inv .4, kept .0), omega (arith, long .2, inv .5, kept .1 .1 .1 .0)), (inv .6, inv .7)))))
+    let kept = c .before .before .before .before .before .before .before .before .before .before .before .before .before .before .before .begin .kept .1 .1 .1 in
+    (d .pre .0, ((inv .1, c .before .before .before .before .before .before .before .if1 .taken), (inv .2, ((omega (arith, long .0, inv .3), omega (arith, long .1, inv .4, kept .0), omega (arith, long .2, inv .5, kept .1 .1 .1 .0)), (inv .6, inv .7)))))
 
 add-j : tie.Need-add-j Inv-loop μ-loop
 add-j c =
-    omega (arith, c .before .before .before .before .before .before .before .before .before .before .before .before .before .before .before .before .loop .inv .0)
+    omega (arith, c .before .before .before .before .before .before .before .before .before .before .before .before .before .before .before .before .before .loop .inv .0)
 
 loop-less : tie.Need-loop-less Inv-loop μ-loop
 loop-less c =
-    omega (arith, c .before .before .before .before .before .before .before .before .before .before .before .before .before .before .if1 .taken, c .before .before .before .before .before .before .before .before .before .before .before .before .before .before .before .before .loop .inv .1 .states)
+    omega (arith, c .before .before .before .before .before .before .before .before .before .before .before .before .before .before .before .if1 .taken, c .before .before .before .before .before .before .before .before .before .before .before .before .before .before .before .before .before .loop .inv .1 .states)
 
 loop-again : tie.Need-loop-again Inv-loop μ-loop
 loop-again c =
-    let a = c .before .before .before .before .before .before .before .before .before .before .before .before .before .before .before .before .before .before .before .before .before .before .before .before .before .before .before .before .before .before .args in
-    let l = c .before .before .before .before .before .before .before .before .before .before .before .before .before .before .before .before .loop in
+    let a = c .before .before .before .before .before .before .before .before .before .before .before .before .before .before .before .before .before .before .before .before .before .before .before .before .before .before .before .before .before .before .before .args in
+    let l = c .before .before .before .before .before .before .before .before .before .before .before .before .before .before .before .before .before .loop in
     let y = c .before .before .before .before .before .before .before .expand in
     let kept = y .kept .1 .1 .1 in
-    let taken = c .before .before .before .before .before .before .before .before .before .before .before .before .before .before .if1 .taken in
+    let taken = c .before .before .before .before .before .before .before .before .before .before .before .before .before .before .before .if1 .taken in
     let φ = plan (tableOf (a .book .now)) (a .root) in (
       omega (arith, taken, l .inv .1 .states),
       y .ensures .0 .next .room,
