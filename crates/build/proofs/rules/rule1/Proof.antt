@@ -28,7 +28,7 @@ conjunctive-requires : tie.Need-conjunctive-requires
 conjunctive-requires c κs =
     let d = c .before .before .before .before .before .before .before .before .before .before .before .before .before .before .before in
     let t = tame-conjunctive (c .before .before .before .before .before .before .before .role .ensures) (c .before .before .before .before .before .class .given .1) in
-    ((d .pre .1 .0 .0, d .pre .1 .0 .1, omega (arith, d .pre .1 .0 .0 .variables, d .pre .1 .0 .2), t .0, t .1), (d .pre .1 .1 .0 .1, d .pre .1 .1 .1))
+    ((d .pre .1 .0 .0, d .pre .1 .0 .1, omega (arith, d .pre .1 .0 .0 .variables, d .pre .1 .0 .2), omega (arith, t .0, t .1), omega (arith, t .0, t .1)), (d .pre .1 .1 .0 .1, d .pre .1 .1 .1))
 
 enum-known-class-2 : tie.Need-enum-known-class-2
 enum-known-class-2 c = search needs
@@ -40,7 +40,7 @@ disjunctive-requires : tie.Need-disjunctive-requires
 disjunctive-requires c κs =
     let d = c .before .before .before .before .before .before .before .before .before .before .before .before .before .before .before in
     let t = tame-disjunctive (c .before .before .before .before .before .before .before .role .ensures) (c .before .before .before .before .before .class2 .given .1) in
-    ((d .pre .1 .0 .0, d .pre .1 .0 .1, omega (arith, d .pre .1 .0 .0 .variables, d .pre .1 .0 .2), t .0, t .1), (d .pre .1 .1 .0 .1, d .pre .1 .1 .1))
+    ((d .pre .1 .0 .0, d .pre .1 .0 .1, omega (arith, d .pre .1 .0 .0 .variables, d .pre .1 .0 .2), omega (arith, t .0, t .1), omega (arith, t .0, t .1)), (d .pre .1 .1 .0 .1, d .pre .1 .1 .1))
 
 enum-told : tie.Need-enum-told
 enum-told c = search needs
