@@ -1,16 +1,28 @@
 -- The answer within a budget: which cases there are, what each says of the run, and that there is one outcome only. Assumes nothing.
 use mathlib.Core.Path.{_≡_, refl, sym, ap, _∙_, subst}
 use mathlib.Core.Bool.{Bool, true, false}
-use mathlib.Core.List.{List, map}
+use mathlib.Core.List.{List, map, _++_, append-nil}
 use Prim.Native.Nat.{ℕ, _%_, _≤_, _<_}
+use native.Mathlib.Omega.{arith}
 use borrow.Author.Tests.{leb-true, leb-false, le-leb, lt-leb}
-use lib.ListN.{length, replicate}
+use lib.ListN.{length, drop, replicate, length-replicate, drop-of-length-le}
+use lib.Seq.{take-all}
 use lib.IntN.{ℤ}
+use Rattle.ground.specs.Buffer.{filled, cleared}
 use Rattle.clauses.specs.Clause.{triples}
 use Rattle.search.specs.Search.{Run, sat, unsat, run, nodes, final, finishes, left}
 use Rattle.search.specs.Answered.{verdict, answer, Answered}
+use Rattle.search.specs.Steps.{Ran, leftBy}
 use Rattle.search.specs.declared.Outcome.{Outcome}
 use Rattle.search.specs.declared.Outcome.the-variants.{Yes, No, Stopped}
+
+-- a buffer cleared to its end
+pub cleared-all : {A : Type 0} (z : A) (n : ℕ) (old : List A) → length old ≡ n → cleared z n old ≡ replicate n z
+unfolding filled
+cleared-all {A} z n old e =
+    ap (λ (l : List A). l ++ drop n old) (take-all n (replicate n z) (omega (arith, length-replicate n z)))
+    ∙ ap (λ (l : List A). replicate n z ++ l) (drop-of-length-le old {i = n} (omega (arith, e)))
+    ∙ append-nil (replicate n z)
 
 -- ---- from the run to the answer
 module _ (budget v : ℕ) (R : Run) where
@@ -22,20 +34,25 @@ module _ (budget v : ℕ) (R : Run) where
   unfolding answer left finishes
   too-late h = (simp (lt-leb (nodes R) budget h), simp (lt-leb (nodes R) budget h))
 
-  pub answer-yes : (b : List ℕ) (n : ℕ) → n ≤ budget → R ≡ sat b n → (Yes n ≡ answer budget R) × (map (λ x. x % 2) b ≡ left budget v R)
+  answer-yes : (b : List ℕ) (n : ℕ) → n ≤ budget → R ≡ sat b n → (Yes n ≡ answer budget R) × (map (λ x. x % 2) b ≡ left budget v R)
   unfolding verdict final nodes
   answer-yes b n h e =
       let t = in-time (subst (λ (X : Run). nodes X ≤ budget) (sym e) h) in
       (sym (t .0 ∙ ap verdict e), sym (t .1 ∙ ap (final v) e))
 
-  pub answer-no : (n : ℕ) → n ≤ budget → R ≡ unsat n → (No n ≡ answer budget R) × (replicate v 0 ≡ left budget v R)
+  answer-no : (n : ℕ) → n ≤ budget → R ≡ unsat n → (No n ≡ answer budget R) × (replicate v 0 ≡ left budget v R)
   unfolding verdict final nodes
   answer-no n h e =
       let t = in-time (subst (λ (X : Run). nodes X ≤ budget) (sym e) h) in
       (sym (t .0 ∙ ap verdict e), sym (t .1 ∙ ap (final v) e))
 
-  pub answer-stopped : (n : ℕ) → n ≡ budget → budget < nodes R → (Stopped n ≡ answer budget R) × (replicate v 0 ≡ left budget v R)
+  answer-stopped : (n : ℕ) → n ≡ budget → budget < nodes R → (Stopped n ≡ answer budget R) × (replicate v 0 ≡ left budget v R)
   answer-stopped n e h = let t = too-late h in (ap Stopped e ∙ sym (t .0), sym (t .1))
+
+  pub answer-ran : (a : List ℕ) → length a ≡ v → (o : Outcome) → Ran R budget a o → (o ≡ answer budget R) × (leftBy o a ≡ left budget v R)
+  answer-ran a e (Yes n) h = answer-yes a n (h .0) (h .1)
+  answer-ran a e (No n) h = let y = answer-no n (h .0) (h .1) in (y .0, ap (λ (k : ℕ). replicate k 0) e ∙ y .1)
+  answer-ran a e (Stopped n) h = let y = answer-stopped n (h .0) (h .1) in (y .0, ap (λ (k : ℕ). replicate k 0) e ∙ y .1)
 
 -- ---- from the answer to the run: what each case says of it, of the values left and of the count
 abbrev pub Means : ℕ → ℕ → Run → List ℕ → Outcome → Type 0

@@ -1,5 +1,5 @@
 -- The whole of what is left to do, a node at a time: the node at hand fails, ends in yes, or branches, and the rest is the whole again. Assumes nothing.
-use mathlib.Core.Path.{_≡_, refl, sym, ap, _∙_}
+use mathlib.Core.Path.{_≡_, refl, sym, ap, _∙_, subst}
 use mathlib.Core.Bool.{Bool, true, false}
 use mathlib.Core.List.{List, [], _∷_}
 use Prim.Native.Nat.{ℕ, suc, _+_, _<_}
@@ -11,8 +11,8 @@ use Rattle.clauses.specs.Clause.{Clause, triples}
 use Rattle.search.specs.Search.{allMet, zeros, lowest, clash, calm, settle, Run, sat, unsat, plus, onFirst, node, run, nodes}
 use Rattle.search.specs.Models.{ClausesIn}
 use Rattle.search.specs.Steps.{firstBranch, pending, settledBy, Settling, Branched, Backed, nodeOf, onFail, finished, whole, Stepped}
-use Rattle.search.specs.declared.branch.Step.the-variants.{Yes as StepYes, No as StepNo, Next}
-use Rattle.search.specs.declared.trail.Turn.the-variants.{Nowhere, To}
+use Rattle.search.specs.declared.trail.Step.{Step}
+use Rattle.search.specs.declared.trail.Step.the-variants.{Yes as StepYes, No as StepNo, Next}
 use Rattle.search.proofs.Marks.{zeros-none, zeros-set, zeros-pos, lowest-past}
 use Rattle.search.proofs.Pending.{pending-branch}
 use Rattle.search.proofs.Nodes.{branch-is, enough, node-clash, node-met, node-branch, nodes-plus, some-nodes}
@@ -111,13 +111,14 @@ module _ {cl : List ℤ} {n : ℕ} {a t b u : List ℕ} {m : Bool} {top : ℕ} w
   branch-open h S e = let B = branch-is (triples cl) a b h (calmly S) (met-is false S e) in zeros-pos b (lowest b) (B .low) (B .open-low)
 
   pub stepped-branch : ClausesIn (length a) (triples cl) → Settling cl n a t b u true m top → m ≡ false → top < length u
-      → {b′ u′ : List ℕ} → Branched top b u b′ u′ → Stepped cl n a t b′ u′ (Next (top + 1) (lowest b + 1))
-  stepped-branch h S e l {b′} {u′} R =
+      → {b′ u′ : List ℕ} {r : Step} → Branched top b u b′ u′ r → Stepped cl n a t b′ u′ r
+  stepped-branch h S e l {b′} {u′} {r} R =
       let unmet = met-is false S e in
       let B = branch-is (triples cl) a b h (calmly S) unmet in
       let i = lowest b in
       let rest : pending (set b i 1) (set u top (i + firstBranch)) (top + 1) ≡ set b i 2 ∷ pending a t n =
-      pending-branch b u i top l 1 (B .open-low) ∙ ap (λ (P : List (List ℕ)). set b i 2 ∷ P) (S .back) in (
+      pending-branch b u i top l 1 (B .open-low) ∙ ap (λ (P : List (List ℕ)). set b i 2 ∷ P) (S .back) in
+      subst (λ (x : Step). Stepped cl n a t b′ u′ x) (sym (R .leads)) (
         whole-branch (triples cl) a (pending a t n) b h (calmly S) unmet
             ∙ ap (λ (P : List (List ℕ)). plus 1 (finished (triples cl) (nodeOf (triples cl) (set b i 1)) P)) (sym rest)
             ∙ ap (λ (x : List ℕ). plus 1 (whole cl x (set u top (i + firstBranch)) (top + 1))) (sym (R .marks))
@@ -126,9 +127,8 @@ module _ {cl : List ℤ} {n : ℕ} {a t b u : List ℕ} {m : Bool} {top : ℕ} w
         omega (arith, ap lowest (R .marks), lowest-past b 0 (branch-open h S e)),
       )
 
-  pub stepped-no : Settling cl n a t b u false m top → (b′ u′ : List ℕ) → Backed top b u b′ u′ Nowhere → Stepped cl n a t b′ u′ StepNo
-  stepped-no S b′ u′ e = whole-none (triples cl) a (pending a t n) (clashed S) (sym (S .back) ∙ e)
-
-  pub stepped-back : Settling cl n a t b u false m top → (b′ u′ : List ℕ) (k from : ℕ) → Backed top b u b′ u′ (To k from) → Stepped cl n a t b′ u′ (Next k from)
-  stepped-back S b′ u′ k from e =
+  pub stepped-back : Settling cl n a t b u false m top → (b′ u′ : List ℕ) (r : Step) → Backed top b u b′ u′ r → Stepped cl n a t b′ u′ r
+  stepped-back S b′ u′ StepYes e = absurd e
+  stepped-back S b′ u′ StepNo e = whole-none (triples cl) a (pending a t n) (clashed S) (sym (S .back) ∙ e)
+  stepped-back S b′ u′ (Next k from) e =
       (whole-back (triples cl) a (pending a t n) b′ (pending b′ u′ k) (clashed S) (sym (S .back) ∙ e .0), omega (arith, e .1, S .used), e .2)

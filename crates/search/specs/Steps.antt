@@ -2,9 +2,9 @@
 -- Nothing outside the crate cites this. Assumes nothing.
 use mathlib.Core.Path.{_≡_}
 use mathlib.Core.Bool.{Bool, true, false, cond}
-use mathlib.Core.List.{List, [], _∷_}
-use Prim.Native.Nat.{ℕ, zero, suc, _+_, _-_, _*_, _≤_, _<_}
-use lib.ListN.{length, getD, set}
+use mathlib.Core.List.{List, [], _∷_, map}
+use Prim.Native.Nat.{ℕ, zero, suc, _+_, _-_, _*_, _%_, _≤_, _<_}
+use lib.ListN.{length, getD, set, replicate}
 use lib.IntN.{ℤ, pos, negsuc, natAbs}
 use lib.Dec.{eqb, leb, ltb}
 use Rattle.clauses.specs.Clause.{Clause, three, triples}
@@ -12,10 +12,8 @@ use Rattle.search.specs.Search.{value, met, allMet, says, scan, Says, qu
 use Rattle.search.specs.Answered.{Ready}
 use Rattle.search.specs.declared.clause.Told.{Told}
 use Rattle.search.specs.declared.clause.Told.the-variants.{Met, Open, Fails, Forces}
-use Rattle.search.specs.declared.trail.Turn.{Turn}
-use Rattle.search.specs.declared.trail.Turn.the-variants.{Nowhere, To}
-use Rattle.search.specs.declared.branch.Step.{Step}
-use Rattle.search.specs.declared.branch.Step.the-variants.{Yes as StepYes, No as StepNo, Next}
+use Rattle.search.specs.declared.trail.Step.{Step}
+use Rattle.search.specs.declared.trail.Step.the-variants.{Yes as StepYes, No as StepNo, Next}
 use Rattle.search.specs.declared.Outcome.{Outcome}
 use Rattle.search.specs.declared.Outcome.the-variants.{Yes, No, Stopped}
 
@@ -109,19 +107,21 @@ pending a t (suc k) =
     (pending (set a (getD t k 0) 0) t k)
     (set a (getD t k 0 - firstBranch) 2 ∷ pending (set a (getD t k 0 - firstBranch) 0) t k)
 
--- the lowest unassigned variable is made true, and noted as a first branch
-pub record Branched (n : ℕ) (a t a′ t′ : List ℕ) : Type 0 where
+-- the lowest unassigned variable is made true, and noted as a first branch; the next one is above it
+pub record Branched (n : ℕ) (a t a′ t′ : List ℕ) (r : Step) : Type 0 where
   pub marks : a′ ≡ set a (lowest a) 1
   pub notes : t′ ≡ set t n (lowest a + firstBranch)
+  pub leads : r ≡ Next (n + 1) (lowest a + 1)
 
 -- room on the trail, of which n entries are used, for what is unassigned
 abbrev pub Room : List ℕ → List ℕ → ℕ → Type 0
 Room a t n = n + zeros a ≤ length t
 
 -- going back: the latest pending branch is made, and no variable below `from` is unassigned; or there is none
-abbrev pub Backed : ℕ → List ℕ → List ℕ → List ℕ → List ℕ → Turn → Type 0
-Backed n a t a′ t′ Nowhere = pending a t n ≡ []
-Backed n a t a′ t′ (To k from) = (pending a t n ≡ a′ ∷ pending a′ t′ k) × (k + zeros a′ ≤ n + zeros a) × (from ≤ lowest a′)
+abbrev pub Backed : ℕ → List ℕ → List ℕ → List ℕ → List ℕ → Step → Type 0
+Backed n a t a′ t′ StepYes = ⊥
+Backed n a t a′ t′ StepNo = pending a t n ≡ []
+Backed n a t a′ t′ (Next k from) = (pending a t n ≡ a′ ∷ pending a′ t′ k) × (k + zeros a′ ≤ n + zeros a) × (from ≤ lowest a′)
 
 -- ---- propagation
 unfoldable pub settledBy : Bool → List ℕ → Settles
@@ -166,3 +166,9 @@ abbrev pub Ran : Run → ℕ → List ℕ → Outcome → Type 0
 Ran R budget a′ (Yes n) = (n ≤ budget) × (R ≡ sat a′ n)
 Ran R budget a′ (No n) = (n ≤ budget) × (R ≡ unsat n)
 Ran R budget a′ (Stopped n) = (n ≡ budget) × (budget < nodes R)
+
+-- what is left of the marks: the values of a yes, or none
+abbrev pub leftBy : Outcome → List ℕ → List ℕ
+leftBy (Yes n) a = map (λ x. x % 2) a
+leftBy (No n) a = replicate (length a) 0
+leftBy (Stopped n) a = replicate (length a) 0

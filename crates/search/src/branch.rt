@@ -8,16 +8,9 @@ ghost use Rattle.search.specs.Steps.{Mirrors, Shown, Room, Branched, Ste
 use crate::Outcome;
 use crate::propagate::settle;
 use crate::trail::FIRST;
-use crate::trail::Turn;
+use crate::trail::Step;
 use crate::trail::back;
 use crate::trail::note;
-
-// What entering a node comes to: the verdict, or a next node, which has so many entries on the trail, and no unassigned variable below a place.
-pub enum Step {
-    Yes,
-    No,
-    Next(usize, usize),
-}
 
 // The place of the lowest unassigned variable, where none is unassigned below `from`. One pass over the variables from there on at most.
 fn lowest(values: &[u8], from: usize) -> usize
@@ -34,20 +27,20 @@ fn lowest(values: &[u8], from: usize) -> usize
     i
 }
 
-// Makes the first branch on the lowest unassigned variable, whose place it gives: it is true, and its second is pending on the trail at n.
+// Makes the first branch on the lowest unassigned variable: it is true, and its second is pending on the trail at n.
 fn first_branch(
     values: &mut [u8],
     truth: &mut [u8],
     trail: &mut [u16],
     n: usize,
     from: usize,
-) -> usize
+) -> Step
     requires { ⌜ (0 < def.zeros (now values)) × (n < length (now trail)) × (from ≤ def.lowest (now values)) × Mirrors (now values) (now truth) ⌝ }
-    ensures { λ r. ⌜ (r ≡ def.lowest (now (values .entry))) × Branched n (now (values .entry)) (now (trail .entry)) (now (values .exit)) (now (trail .exit)) × Mirrors (now (values .exit)) (now (truth .exit)) ⌝ }
+    ensures { λ r. ⌜ Branched n (now (values .entry)) (now (trail .entry)) (now (values .exit)) (now (trail .exit)) r × Mirrors (now (values .exit)) (now (truth .exit)) ⌝ }
 {
     let i = lowest(values, from);
     note(values, truth, trail, n, i, 1, FIRST);
-    i
+    Step::Next(n + 1, i + 1)
 }
 
 // Enters one node, whose trail has n entries, and makes the branch that is entered next.
@@ -69,13 +62,9 @@ fn next(
         if s.met {
             return Step::Yes;
         }
-        let i = first_branch(values, truth, trail, top, from);
-        Step::Next(top + 1, i + 1)
+        first_branch(values, truth, trail, top, from)
     } else {
-        match back(values, truth, trail, top, from) {
-            Turn::Nowhere => Step::No,
-            Turn::To(k, low) => Step::Next(k, low),
-        }
+        back(values, truth, trail, top, from)
     }
 }
 

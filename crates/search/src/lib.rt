@@ -10,7 +10,7 @@ ghost use mathlib.Core.List.{map};
 ghost use Prim.Native.Nat.{_%_, _≤_, _<_};
 ghost use lib.ListN.{length, getD, replicate};
 ghost use Rattle.search.specs.Answered.{Ready, Answered};
-ghost use Rattle.search.specs.Steps.{Mirrors};
+ghost use Rattle.search.specs.Steps.{Mirrors, leftBy};
 use branch::walk;
 use ground::clear_u8;
 use ground::clear_u16;
@@ -41,12 +41,20 @@ pub fn search(
     open_up(&mut truth, variables);
     let outcome = walk(clauses, many, values, &mut truth, trail, budget);
     clear_u16(trail, places);
+    leave(outcome, values);
+    outcome
+}
+
+// What an outcome leaves in the values: those of a yes, or none.
+fn leave(outcome: Outcome, values: &mut [u8])
+    ensures { λ _. ⌜ now (values .exit) ≡ leftBy outcome (now (values .entry)) ⌝ }
+{
+    let variables = values.len();
     match outcome {
         Outcome::Yes(_) => finish(values),
         Outcome::No(_) => clear_u8(values, variables),
         Outcome::Stopped(_) => clear_u8(values, variables),
     }
-    outcome
 }
 
 // The table of truths where none of so many variables is assigned. One pass over the variables.

@@ -10,10 +10,11 @@ use crate::clause::weight;
 
 pub const FIRST: u16 = 32768;
 
-// Where going back leads: nowhere, or to a second branch, which has so many entries on the trail, and no unassigned variable below a place.
-pub enum Turn {
-    Nowhere,
-    To(usize, usize),
+// What entering a node comes to: the verdict, or a next node, which has so many entries on the trail, and no unassigned variable below a place.
+pub enum Step {
+    Yes,
+    No,
+    Next(usize, usize),
 }
 
 // Gives the variable at i the mark v, if there is one.
@@ -52,9 +53,9 @@ fn lower(i: usize, j: usize) -> usize
     if i < j { i } else { j }
 }
 
-// Undoes what the first n entries of the trail have assigned, back to the latest first branch, and makes that one the second. Each entry is undone
-// once, so all going back costs no more than all assigning.
-pub fn back(values: &mut [u8], truth: &mut [u8], trail: &mut [u16], n: usize, from: usize) -> Turn
+// Undoes what the first n entries of the trail have assigned, back to the latest first branch, and makes that one the second; no, if there is none. Each
+// entry is undone once, so all going back costs no more than all assigning.
+pub fn back(values: &mut [u8], truth: &mut [u8], trail: &mut [u16], n: usize, from: usize) -> Step
     requires { ⌜ (n ≤ length (now trail)) × (from ≤ lowest (now values)) × Mirrors (now values) (now truth) ⌝ }
     ensures { λ r. ⌜ Backed n (now (values .entry)) (now (trail .entry)) (now (values .exit)) (now (trail .exit)) r × Mirrors (now (values .exit)) (now (truth .exit)) ⌝ }
 {
@@ -70,8 +71,8 @@ pub fn back(values: &mut [u8], truth: &mut [u8], trail: &mut [u16], n: usize, fr
             let i = e - FIRST;
             put(values, truth, i as usize, 2);
             trail[k] = i;
-            return Turn::To(k + 1, low);
+            return Step::Next(k + 1, low);
         }
     }
-    Turn::Nowhere
+    Step::No
 }

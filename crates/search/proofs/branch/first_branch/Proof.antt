@@ -1,10 +1,10 @@
 -- `search::branch::first_branch` meets its contract. Assumes nothing.
-use mathlib.Core.Path.{sym, subst}
-use Prim.Native.Nat.{ℕ, _<_}
+use mathlib.Core.Path.{ap}
+use Prim.Native.Nat.{ℕ, _+_}
 use native.Mathlib.Omega.{arith}
 use borrow.Author.Needs.{needs}
-use lib.ListN.{length}
-use Rattle.search.proofs.Marks.{lowest-is}
+use Rattle.search.specs.declared.trail.Step.the-variants.{Next}
+use Rattle.search.proofs.Marks.{lowest-is, lowest-le}
 use Rattle.search.proofs.branch.first_branch.Statement.{statement}
 use Rattle.search.proofs.branch.first_branch.Tie as tie
 
@@ -16,6 +16,15 @@ note-requires c κs =
     let L = c .before .before .before in
     let s = L .before .before .before .before .before in
     (s .pre .1, omega (arith, L .lowest .ensures, lowest-is (s .args .values .now) (s .pre .0) .0, s .pre .3 .small), s .pre .3)
+
+add-t16 : tie.Need-add-t16
+add-t16 c = search needs
+
+add-t17 : tie.Need-add-t17
+add-t17 c =
+    let L = c .before .before .before .before .before .before .before .before .before .before in
+    let s = L .before .before .before .before .before in
+    record { fits = omega (arith, L .lowest .ensures, lowest-le (s .args .values .now), s .pre .3 .small) }
 
 same-length : tie.Need-same-length
 same-length c = search needs
@@ -30,7 +39,7 @@ returns : tie.Need-returns
 returns c =
     let n = c .before .before .before .before .before .before in
     let e = n .before .before .before .before .lowest .ensures in
-    (e, record { marks = rw e at (n .note .ensures .0); notes = rw e at (n .note .ensures .1) }, n .note .ensures .2)
+    (record { marks = rw e at (n .note .ensures .0); notes = rw e at (n .note .ensures .1); leads = ap (λ (i : ℕ). Next (c .before .before .before .before .before .before .before .before .before .before .before .before .before .before .before .args .n + 1) (i + 1)) e }, n .note .ensures .2)
 
 pub first-branch-spec : {M : Type 1} → statement M
-first-branch-spec = tie.close (tie.spec lowest-requires note-requires same-length same-length-2 same-length-3 returns)
+first-branch-spec = tie.close (tie.spec lowest-requires note-requires add-t16 add-t17 same-length same-length-2 same-length-3 returns)

@@ -1,8 +1,8 @@
 -- `search::branch::next` meets its contract: what `settle`, `first_branch` and `back` promise makes a step. Assumes nothing.
-use mathlib.Core.Path.{_≡_, sym, subst, _∙_}
+use mathlib.Core.Path.{_≡_, subst, _∙_}
 use mathlib.Core.Bool.{Bool, true, false}
 use mathlib.Core.List.{List}
-use Prim.Native.Nat.{ℕ, _+_, _≤_, _<_}
+use Prim.Native.Nat.{ℕ, _≤_, _<_}
 use native.Mathlib.Omega.{arith}
 use borrow.Author.Needs.{needs}
 use lib.ListN.{length}
@@ -10,18 +10,14 @@ use lib.IntN.{ℤ}
 use Rattle.clauses.specs.Clause.{triples}
 use Rattle.search.specs.Search.{zeros, lowest}
 use Rattle.search.specs.Models.{ClausesIn}
-use Rattle.search.specs.Steps.{Mirrors, Settling, Backed, Stepped}
-use Rattle.search.specs.declared.branch.Step.the-variants.{Next}
-use Rattle.search.specs.declared.trail.Turn.{Turn}
-use Rattle.search.specs.declared.trail.Turn.the-variants.{Nowhere, To}
-use Rattle.search.proofs.Marks.{lowest-le}
+use Rattle.search.specs.Steps.{Settling}
 use Rattle.search.proofs.Triples.{triples-in}
-use Rattle.search.proofs.Whole.{branch-open, stepped-yes, stepped-branch, stepped-no, stepped-back}
+use Rattle.search.proofs.Whole.{branch-open, stepped-yes, stepped-branch, stepped-back}
 use Rattle.search.proofs.branch.next.Statement.{statement}
 use Rattle.search.proofs.branch.next.Tie as tie
 
 settle-requires : tie.Need-settle-requires
-settle-requires c κs = search needs
+settle-requires c κs = let p = c .before .before .before .before .before .before .pre in (p .0, p .1)
 
 -- after propagation
 module _ (S : tie.After-settle) where
@@ -85,25 +81,10 @@ module _ (c : tie.Else2) where
 first-branch-requires : tie.Need-first-branch-requires
 first-branch-requires c κs = let e = c .before .before .before in (open-some e, room e, from-low (S e), S e .settle .ensures .1)
 
-add-t28 : tie.Need-add-t28
-add-t28 c = search needs
-
-add-t29 : tie.Need-add-t29
-add-t29 c =
-    let f = c .before .before .before .before .before .before in
-    let S = S (f .before .before .before .before) in
-    record { fits = omega (arith, f .first-branch .ensures .0, lowest-le (b S), S .settle .ensures .1 .small) }
-
 back-requires : tie.Need-back-requires
 back-requires c κs =
     let S = c .before .before .before .before .before .before .before .before .before .before in
     (omega (arith, S .settle .ensures .0 .used, long S, s S .pre .1), from-low S, S .settle .ensures .1)
-
-enum-told : tie.Need-enum-told
-enum-told c = search needs
-
-enum-known-k : tie.Need-enum-known-k
-enum-known-k c = search needs
 
 same-length-4 : tie.Need-same-length-4
 same-length-4 c = search needs
@@ -118,28 +99,7 @@ returns-2 : tie.Need-returns-2
 returns-2 c =
     let f = c .before .before .before .before .before .before in
     let e = f .before .before .before .before in
-    let S = S e in
-    let E = f .first-branch .ensures in
-    let a′ = f .first-branch .last .0 in
-    let t′ = f .first-branch .last .1 .1 .0 in (
-      subst (λ (i : ℕ). Stepped (cl S) (s S .args .n) (s S .args .values .now) (s S .args .trail .now) a′ t′ (Next (top S + 1) (i + 1))) (sym (E .0))
-          (stepped-branch (within S) (calmly e) (c .before .before .before .before .before .before .before .before .before .before .if2 .left) (room e) (E .1)),
-      E .2,
-    )
-
--- where the node fails
-module _ (B : tie.After-back) where
-  abbrev F : tie.Else1
-  F = B .before .before .before .before
-
-  abbrev Z : tie.After-settle
-  Z = F .before .before .before .before .before .before .before
-
-  clashed : Settling (cl Z) (s Z .args .n) (s Z .args .values .now) (s Z .args .trail .now) (b Z) (u Z) false (Z .settle .result .met) (top Z)
-  clashed = settled Z false (F .if1 .left)
-
-  backed : (r : Turn) → B .back .result ≡ r → Backed (top Z) (b Z) (u Z) (B .back .last .0) (B .back .last .1 .1 .0) r
-  backed r e = subst (λ (x : Turn). Backed (top Z) (b Z) (u Z) (B .back .last .0) (B .back .last .1 .1 .0) x) e (B .back .ensures .0)
+    (stepped-branch (within (S e)) (calmly e) (e .if2 .left) (room e) (f .first-branch .ensures .0), f .first-branch .ensures .1)
 
 same-length-7 : tie.Need-same-length-7
 same-length-7 c = search needs
@@ -152,27 +112,12 @@ same-length-9 c = search needs
 
 returns-3 : tie.Need-returns-3
 returns-3 c =
-    let B = c .before .before .before .before .before .before .before .before in
-    (stepped-no (clashed B) (B .back .last .0) (B .back .last .1 .1 .0) (backed B Nowhere (c .enum-told .given .1)), B .back .ensures .1)
-
-same-length-10 : tie.Need-same-length-10
-same-length-10 c = search needs
-
-same-length-11 : tie.Need-same-length-11
-same-length-11 c = search needs
-
-same-length-12 : tie.Need-same-length-12
-same-length-12 c = search needs
-
-returns-4 : tie.Need-returns-4
-returns-4 c =
-    let B = c .before .before .before .before .before .before .before .before .before in
-    let k = c .before .k .given .0 .0 in
-    let low = c .before .k .given .0 .1 .0 in
-    (stepped-back (clashed B) (B .back .last .0) (B .back .last .1 .1 .0) k low (backed B (To k low) (c .before .k .given .1)), B .back .ensures .1)
+    let B = c .before .before .before .before .before .before in
+    let F = B .before .before .before .before in
+    (stepped-back (settled (F .before .before .before .before .before .before .before) false (F .if1 .left)) (B .back .last .0) (B .back .last .1 .1 .0) (B .back .result) (B .back .ensures .0), B .back .ensures .1)
 
 pub next-spec : {M : Type 1} → statement M
 next-spec =
     tie.close
-    (tie.spec settle-requires same-length same-length-2 same-length-3 returns first-branch-requires add-t28 add-t29 back-requires enum-told enum-known-k
-    same-length-4 same-length-5 same-length-6 returns-2 same-length-7 same-length-8 same-length-9 returns-3 same-length-10 same-length-11 same-length-12 returns-4)
+    (tie.spec settle-requires same-length same-length-2 same-length-3 returns first-branch-requires back-requires
+    same-length-4 same-length-5 same-length-6 returns-2 same-length-7 same-length-8 same-length-9 returns-3)

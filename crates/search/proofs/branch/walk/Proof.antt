@@ -11,8 +11,8 @@ use Rattle.clauses.specs.Clause.{triples}
 use Rattle.search.specs.Search.{zeros, lowest, Run, sat, unsat, plus, nodes}
 use Rattle.search.specs.Answered.{Ready}
 use Rattle.search.specs.Steps.{Mirrors, pending, nodeOf, finished, whole, Stepped}
-use Rattle.search.specs.declared.branch.Step.{Step}
-use Rattle.search.specs.declared.branch.Step.the-variants.{Yes, No, Next}
+use Rattle.search.specs.declared.trail.Step.{Step}
+use Rattle.search.specs.declared.trail.Step.the-variants.{Yes, No, Next}
 use Rattle.search.proofs.Nodes.{nodes-plus}
 use Rattle.search.proofs.Whole.{plus-plus, plus-none, whole-some}
 use Rattle.search.proofs.branch.walk.Statement.{statement}
