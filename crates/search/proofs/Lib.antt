@@ -8,10 +8,11 @@ mod Nodes
 mod Models
 mod Count
 mod Answers
--- What the proofs of the functions use besides: signed literals, a clause of three, clause numbers in a slice, pending branches, what is left to do.
+-- What the proofs of the functions use besides: signed literals, a clause of three, clause numbers in a slice, the table of truths, pending branches, what is left
+-- to do.
 mod Literals
 mod Judged
 mod Triples
+mod Table
 mod Pending
 mod Whole
-mod Table

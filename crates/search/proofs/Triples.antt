@@ -82,9 +82,6 @@ module _ (cl : List ℤ) (a : List ℕ) (m : ℕ) (R : Ready cl m (length a)) wh
   pub read-at : (k : ℕ) → read (at cl k) ≡ at cl k
   read-at k = again (at cl k) (at-small k)
 
-  pub range-at : (k : ℕ) → natAbs (read (at cl k)) ≤ length a
-  range-at k = rw (read-at k) (R .range k)
-
   pub next-clause : (i : ℕ) → i < m → triples (drop (3 * i) cl) ≡ clauseAt cl i ∷ triples (drop (3 * (i + 1)) cl)
   next-clause i h =
       let e : suc (suc (suc (3 * i))) ≡ 3 * (i + 1) = omega arith in

@@ -1,8 +1,8 @@
 -- `search::open_up` meets its contract. The invariant: the table of as many variables as were taken. Assumes nothing.
-use mathlib.Core.Path.{_≡_, sym, ap, subst, _∙_}
+use mathlib.Core.Path.{_≡_, sym, subst, _∙_}
 use Prim.Native.Nat.{ℕ, _-_, _≤_, _<_}
 use native.Mathlib.Omega.{arith}
-use lib.ListN.{length, replicate, length-set}
+use lib.ListN.{replicate, length-set}
 use Rattle.search.specs.Steps.{Mirrors}
 use Rattle.search.proofs.Table.{mirrors-none, mirrors-more}
 use Rattle.search.proofs.open_up.Statement.{statement}

@@ -1,5 +1,5 @@
 -- `search::branch::next` meets its contract: what `settle`, `first_branch` and `back` promise makes a step. Assumes nothing.
-use mathlib.Core.Path.{_≡_, subst, _∙_}
+use mathlib.Core.Path.{_≡_, subst}
 use mathlib.Core.Bool.{Bool, true, false}
 use mathlib.Core.List.{List}
 use Prim.Native.Nat.{ℕ, _≤_, _<_}
