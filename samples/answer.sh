@@ -7,7 +7,7 @@ if [ $# -lt 1 ] || [ $# -gt 2 ]; then
     exit 2
 fi
 top=$(cd "$(dirname "$0")/.." && pwd)
-ruletext=$top/target/ruletext/release/ruletext
+ruletext=$top/target/rust/release/ruletext
 if [ ! -x "$top/target/bin/rulecheck" ]; then
     echo "proving and building the program, some minutes .." >&2
     (cd "$top" && rt check rulecheck) >"${TMPDIR:-/tmp}/rulecheck.log" 2>&1 || {
@@ -16,7 +16,7 @@ if [ ! -x "$top/target/bin/rulecheck" ]; then
     }
 fi
 if [ ! -x "$ruletext" ]; then
-    CARGO_TARGET_DIR=$top/target/ruletext cargo build --quiet --release --offline --manifest-path "$top/tools/ruletext/Cargo.toml"
+    CARGO_TARGET_DIR=$top/target/rust cargo build --quiet --release --offline --manifest-path "$top/tools/ruletext/Cargo.toml"
 fi
 if [ "${2:-}" = picture ]; then
     "$ruletext" book <"$1" | "$top/target/bin/rulecheck" | "$ruletext" graph "$1"
