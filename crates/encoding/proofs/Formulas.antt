@@ -1,12 +1,13 @@
 -- The signed formulas of a table are a grammar for its build: what is asked for is good, and ranks fall to the parts. Assumes nothing.
 use Prim.Native.Nat.{ℕ, zero, suc, _≤_, _<_}
 use native.Mathlib.Omega.{arith}
-use mathlib.Core.Path.{_≡_, refl, ap}
+use mathlib.Core.Path.{_≡_, refl}
 use mathlib.Core.Bool.{Bool, true, false, not}
 use mathlib.Core.List.{List}
 use lib.ListN.{length}
-use Rattle.logic.specs.Table.{Node, atom, neg, and, or, imp, box, dia, children, Kids, Below, kids-map, node, at-step}
-use Rattle.signed.specs.Signed.{Key, atomic, solid, Ask, plus, stripped, signed, Class, leaf, conjunctive, disjunctive, existential, universal, class, classed}
+use Rattle.logic.specs.Table.{Node, atom, neg, and, or, imp, box, dia, children, Kids, Below, kids-map, node}
+use Rattle.signed.specs.Signed.{Key, atomic, solid, Ask, stripped, signed, Class, leaf, conjunctive, disjunctive, existential, universal, class, classed}
+use Rattle.signed.proofs.Signed.{signed-step}
 use Rattle.encoding.specs.Build.{plan}
 use Rattle.encoding.proofs.Facts.{Parts, Signs, Grammar}
 
@@ -20,10 +21,6 @@ Solid (box r c) = Unit {0}
 Solid (dia r c) = Unit {0}
 
 module _ (ns : List Node) (below : Below ns) where
-  pub signed-step : (i : ℕ) (s : Bool) → signed ns i s ≡ stripped i (children (signed ns) (node ns i)) s
-  unfolding signed
-  signed-step i s = ap (λ (f : Bool → Ask). f s) (at-step (stripped) ns below i)
-
   -- what may be asked for: an atom of the table, or a node that is neither atom nor "not", and then not under minus
   abbrev pub GoodAt : Bool → Key → Type 0
   GoodAt m (atomic a) = (i : ℕ) × (i < length ns) × (node ns i ≡ atom a)
@@ -44,7 +41,7 @@ module _ (ns : List Node) (below : Below ns) where
   pub fine : (f i : ℕ) (s : Bool) → i < f → i < length ns → Fine i (signed ns i s)
   unfolding stripped children
   fine zero i s h k = absurd (omega arith)
-  fine (suc f) i s h k = rw (signed-step i s) (go (λ c t q. fine f c t (omega arith) (omega arith)) (node ns i) refl (below i))
+  fine (suc f) i s h k = rw (signed-step ns below i s) (go (λ c t q. fine f c t (omega arith) (omega arith)) (node ns i) refl (below i))
     where
       go : ((c : ℕ) (t : Bool) → c < i → Fine c (signed ns c t)) → (n : Node) → node ns i ≡ n → Kids (λ c. c < i) n → Fine i (stripped i (children (signed ns) n) s)
       go ih (atom a) e q = ((i, k, e), omega arith)

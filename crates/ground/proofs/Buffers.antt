@@ -3,9 +3,9 @@ use Prim.Native.Nat.{ℕ, zero, suc, _+_, _-_, _≤_, _<_}
 use native.Mathlib.Omega.{arith}
 use native.Mathlib.Decide.{ℕ-discrete, decLt}
 use mathlib.Core.Path.{_≡_, refl, sym, ap, _∙_}
-use mathlib.Core.List.{List, [], _∷_, _++_}
-use lib.ListN.{length, getD, set, take, drop, replicate, length-append, length-drop, length-set, length-replicate, getD-replicate, take-append-drop, List·getD-append, List·getD-eq-default}
-use lib.Seq.{getD-set-same, getD-set-other, getD-append-seam, getD-take, getD-drop, getD-append-add, ext-getD, length-take-le, take-append-le, take-append-seam, take-take}
+use mathlib.Core.List.{List, [], _∷_, _++_, append-nil}
+use lib.ListN.{length, getD, set, take, drop, replicate, length-append, length-drop, length-set, length-replicate, getD-replicate, take-append-drop, drop-of-length-le, List·getD-append, List·getD-eq-default}
+use lib.Seq.{getD-set-same, getD-set-other, getD-append-seam, getD-take, getD-drop, getD-append-add, ext-getD, length-take-le, take-all, take-append-le, take-append-seam, take-take}
 use Rattle.ground.specs.Buffer.{filled, cleared}
 use Rattle.ground.proofs.Lists.{length-snoc, getD-snoc-other}
 
@@ -85,6 +85,14 @@ module _ {A : Type 0} where
 
   pub kept-set : (z : A) (n : ℕ) (old buf : List A) (x : A) (m : ℕ) → m < n → Kept z n old buf → Kept z n old (set buf m x)
   kept-set z n old buf x m h k i j = getD-set-other buf m i x z (λ e. omega arith) ∙ k i j
+
+-- a buffer cleared to its end
+pub cleared-all : {A : Type 0} (z : A) (n : ℕ) (old : List A) → length old ≡ n → cleared z n old ≡ replicate n z
+unfolding filled
+cleared-all {A} z n old e =
+    ap (λ (l : List A). l ++ drop n old) (take-all n (replicate n z) (omega (arith, length-replicate n z)))
+    ∙ ap (λ (l : List A). replicate n z ++ l) (drop-of-length-le old {i = n} (omega (arith, e)))
+    ∙ append-nil (replicate n z)
 
 -- a loop that clears: the first i places are z, and from n on nothing changed
 pub record Clearing {A : Type 0} (z : A) (n i : ℕ) (old buf : List A) : Type 0 where

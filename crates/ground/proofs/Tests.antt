@@ -1,7 +1,7 @@
 -- Tests and options: what `mir.Facts` and `mathlib.Core.Bool` do not have. Assumes nothing.
 use Prim.Native.Nat.{ℕ}
 use native.Mathlib.Omega.{arith}
-use mathlib.Core.Path.{_≡_, refl}
+use mathlib.Core.Path.{_≡_, refl, sym, subst}
 use mathlib.Core.Option.{Option, none, some}
 use mathlib.Core.Bool.{Bool, true, false, not, _||_, cond, Bool·beq}
 use lib.Dec.{T}
@@ -21,6 +21,9 @@ T-dec false = no (λ x. x)
 pub T-true : (b : Bool) → T b → b ≡ true
 T-true true t = refl
 T-true false t = absurd t
+
+pub true-T : (b : Bool) → b ≡ true → T b
+true-T b e = subst T (sym e) tt
 
 pub T-false : (b : Bool) → T (not b) → b ≡ false
 T-false true t = absurd t

@@ -11,7 +11,8 @@ use Rattle.ground.proofs.Tests.{true-false}
 use Rattle.logic.specs.Table.{Node, atom, neg, and, or, imp, box, dia, children, Kids, Below, kids-map, node, at-step}
 use Rattle.logic.specs.Truth.{Structure, meaning, Holds, TwoValued}
 use Rattle.signed.specs.Signed.{Key, atomic, solid, Ask, plus, stripped, signed, class, classed}
-use Rattle.encoding.proofs.Formulas.{Solid, GoodAt, Good, classAt, signed-step}
+use Rattle.signed.proofs.Signed.{signed-step}
+use Rattle.encoding.proofs.Formulas.{Solid, GoodAt, Good, classAt}
 use Rattle.meaning.proofs.Sound.{Says}
 use Rattle.meaning.proofs.Complete.{Gives}
 

@@ -1,28 +1,17 @@
 -- The answer within a budget: which cases there are, what each says of the run, and that there is one outcome only. Assumes nothing.
 use mathlib.Core.Path.{_≡_, refl, sym, ap, _∙_, subst}
 use mathlib.Core.Bool.{Bool, true, false}
-use mathlib.Core.List.{List, map, _++_, append-nil}
+use mathlib.Core.List.{List, map}
 use Prim.Native.Nat.{ℕ, _%_, _≤_, _<_}
-use native.Mathlib.Omega.{arith}
 use borrow.Author.Tests.{leb-true, leb-false, le-leb, lt-leb}
-use lib.ListN.{length, drop, replicate, length-replicate, drop-of-length-le}
-use lib.Seq.{take-all}
+use lib.ListN.{length, replicate}
 use lib.IntN.{ℤ}
-use Rattle.ground.specs.Buffer.{filled, cleared}
 use Rattle.clauses.specs.Clause.{triples}
 use Rattle.search.specs.Search.{Run, sat, unsat, run, nodes, final, finishes, left}
 use Rattle.search.specs.Answered.{verdict, answer, Answered}
 use Rattle.search.specs.Steps.{Ran, leftBy}
 use Rattle.search.specs.declared.Outcome.{Outcome}
 use Rattle.search.specs.declared.Outcome.the-variants.{Yes, No, Stopped}
-
--- a buffer cleared to its end
-pub cleared-all : {A : Type 0} (z : A) (n : ℕ) (old : List A) → length old ≡ n → cleared z n old ≡ replicate n z
-unfolding filled
-cleared-all {A} z n old e =
-    ap (λ (l : List A). l ++ drop n old) (take-all n (replicate n z) (omega (arith, length-replicate n z)))
-    ∙ ap (λ (l : List A). replicate n z ++ l) (drop-of-length-le old {i = n} (omega (arith, e)))
-    ∙ append-nil (replicate n z)
 
 -- ---- from the run to the answer
 module _ (budget v : ℕ) (R : Run) where

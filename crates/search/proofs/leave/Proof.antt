@@ -4,7 +4,7 @@ use borrow.Author.Needs.{needs}
 use lib.ListN.{length}
 use Rattle.search.specs.Steps.{leftBy}
 use Rattle.search.specs.declared.Outcome.{Outcome}
-use Rattle.search.proofs.Answers.{cleared-all}
+use Rattle.ground.proofs.Buffers.{cleared-all}
 use Rattle.search.proofs.leave.Statement.{statement}
 use Rattle.search.proofs.leave.Tie as tie
 

@@ -11,7 +11,8 @@ use Rattle.search.specs.Answered.{Ready}
 use Rattle.search.specs.Steps.{Mirrors, Shown, Ran}
 use Rattle.search.proofs.Marks.{zeros-le}
 use Rattle.search.proofs.Whole.{run-is}
-use Rattle.search.proofs.Answers.{cleared-all, answer-ran}
+use Rattle.ground.proofs.Buffers.{cleared-all}
+use Rattle.search.proofs.Answers.{answer-ran}
 use Rattle.search.proofs.search.Statement.{statement}
 use Rattle.search.proofs.search.Tie as tie
 
