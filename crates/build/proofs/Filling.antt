@@ -12,13 +12,13 @@ use Rattle.ground.proofs.Buffers.{Kept, is-filled, filled-laid, filled-kept, le
 use Rattle.clauses.specs.Clause.{numbers}
 use Rattle.signed.specs.Asking.{Small}
 use Rattle.encoding.specs.Build as def
-use Rattle.encoding.specs.Limits.{maxStates, maxVariables, maxClauses, stateNumbers, stateBuffer, wordBuffer, clauseBuffer}
+use Rattle.encoding.specs.Limits.{maxStates, maxVariables, maxClauses, Long, stateNumbers, stateBuffer, wordBuffer, clauseBuffer}
 use Rattle.encoding.specs.Shows.{atStart, totalsOf, Room, buffers, Shows, Low, Parents}
 use Rattle.encoding.specs.declared.counts.Build.{Build}
 use Rattle.encoding.specs.declared.counts.Counts.{Counts}
 use Rattle.encoding.proofs.Steps.{exact-fits}
-use Rattle.build.specs.Filled.{Long, builtOf, Filled}
-use Rattle.build.specs.Does.{Cleared, bare}
+use Rattle.build.specs.Filled.{builtOf, Filled}
+use Rattle.build.specs.Steps.{Cleared, bare}
 use Rattle.build.specs.declared.Built.the-variants.{Whole, Over}
 
 module _ {A : Type 0} (z : A) (n : ℕ) (old new : List A) (e : new ≡ cleared z n old) where

@@ -1,5 +1,4 @@
-pub mod Doing
-pub mod Seeing
+pub mod Beginning
 pub mod Looping
 pub mod Filling
 pub mod Single

@@ -1,75 +1,28 @@
 -- The loops of a build. Where the code stands at place j it shows what the definition's scan gives at j: at the places that it passes over the scan
 -- does nothing. It ends where the definition ends. Assumes nothing.
-use Prim.Native.Nat.{ℕ, suc, _+_, _-_, _*_, _/_, _≤_, _<_}
+use Prim.Native.Nat.{ℕ, suc, _+_, _-_, _/_, _≤_, _<_}
 use native.Mathlib.Omega.{arith}
 use native.Mathlib.Decide.{ℕ-discrete}
-use native.Mathlib.Nat.{zero-add}
-use native.Mathlib.Numerals.{add-one}
-use mathlib.Core.Path.{_≡_, refl, sym, ap, _∙_, subst}
-use mathlib.Core.Bool.{true, false}
+use mathlib.Core.Path.{_≡_, sym, ap, _∙_, subst}
 use mathlib.Core.List.{List}
 use lib.IntN.{ℤ}
 use lib.ListN.{getD}
 use Rattle.logic.specs.Table.{Node}
 use Rattle.signed.specs.Signed as class
 use Rattle.signed.specs.Signed.{leaf}
-use Rattle.signed.specs.declared.Ask.{Ask}
 use Rattle.encoding.specs.Build as def
-use Rattle.encoding.specs.Build.{Plan, plan, variables#, novariable, norecord, scan, by, rule1, rule2, rule3, push, phase1, phase2, phase3, expand}
-use Rattle.encoding.specs.Index.{Others, Indexed}
-use Rattle.encoding.specs.Shows.{Room, Buffers, buffers, Shows, Next, Writes, Makes, Parents}
+use Rattle.encoding.specs.Build.{Plan, plan, variables#, novariable, scan, by, rule1, rule2, rule3, phase1, phase2, phase3, expand}
+use Rattle.encoding.specs.Index.{Others}
+use Rattle.encoding.specs.Shows.{Room, Buffers, buffers, Shows, Next, Parents}
 use Rattle.encoding.specs.declared.counts.Counts.{Counts}
-use Rattle.encoding.proofs.Loops.{scan-add, scan-next}
+use Rattle.encoding.proofs.Loops.{scan-add}
 use Rattle.encoding.proofs.Totals.{Less, scan-less, by1-less, by2-less, by3-less}
-use Rattle.encoding.proofs.Rows.{numbers-at}
 use Rattle.encoding.proofs.Words.{word-at, word-state}
-use Rattle.encoding.proofs.Steps.{over-stays, next-refl, next-then, made-refl, made-then}
+use Rattle.encoding.proofs.Steps.{over-stays}
 use Rattle.encoding.proofs.Settling.{Due, Settles, due-upto}
 use Rattle.encoding.proofs.Skipping as skipping
-use Rattle.build.specs.Does.{Stays, Moves, Does, Asking, Making, Pushing, Pushes}
-
--- steps in a row that make no state
-pub stays-refl : (c : Counts) (ws : List ℕ) → Room c → Stays c c ws ws
-stays-refl c ws room = record { next = next-refl c ws room; same = refl }
-
-pub stays-then : {c d r : Counts} {xs ys zs : List ℕ} → Stays c d xs ys → Stays d r ys zs → Stays c r xs zs
-stays-then a b = record { next = next-then (a .next) (b .next); same = b .same ∙ a .same }
-
--- and that make states of the parent s
-pub moves-refl : (s : ℕ) (c : Counts) (st ws : List ℕ) → Room c → Moves s c c st st ws ws
-moves-refl s c st ws room = record { next = next-refl c ws room; made = made-refl s c st }
-
-pub moves-then : {s : ℕ} {c d r : Counts} {st st₁ st₂ ws ws₁ ws₂ : List ℕ} → Moves s c d st st₁ ws ws₁ → Moves s d r st₁ st₂ ws₁ ws₂ → Moves s c r st st₂ ws ws₂
-moves-then a b = record { next = next-then (a .next) (b .next); made = made-then (a .next .states) (a .made) (b .made) }
-
--- neither a clause nor a state touches the words or their number
-pub indexed-written : {c r : Counts} {k cs cs′ : List ℤ} {ws finder own : List ℕ} → Writes c k cs cs′ r → Indexed (c .variables) ws finder own → Indexed (r .variables) ws finder own
-indexed-written {c} {r} {k} {cs} {cs′} {ws} {finder} {own} w h = subst (λ (n : ℕ). Indexed n ws finder own) (sym (w .variables)) h
-
-pub indexed-made : {c r : Counts} {s q p : ℕ} {st st′ ws finder own : List ℕ} → Makes c s q p st st′ r → Indexed (c .variables) ws finder own → Indexed (r .variables) ws finder own
-indexed-made {c} {r} {s} {q} {p} {st} {st′} {ws} {finder} {own} m h = subst (λ (n : ℕ). Indexed n ws finder own) (sym (m .variables)) h
-
--- once over a limit, nothing is done
-module _ {c : Counts} (room : Room c) (on : c .over ≡ 0 → ⊥) where
-  pub over-asking : {f : Plan → def.Build → def.Build} {ns : List Node} {ws : List ℕ} {cs : List ℤ} → ((φ : Plan) (B : def.Build) → Less B (f φ B)) → Asking f ns c c ws ws cs cs
-  over-asking {f} {ns} {ws} less = record { stays = stays-refl c ws room; does = λ root st o B sh. over-stays o c _ B _ on (less (plan ns root) B) sh }
-
-  pub over-making : {s : ℕ} {f : Plan → def.Build → def.Build} {ns : List Node} {b : Buffers} → ((φ : Plan) (B : def.Build) → Less B (f φ B)) → Making s f ns c c b b
-  over-making {s} {f} {ns} {b} less = record { moves = moves-refl s c (b .states) (b .words) room; does = λ root o B sh. over-stays o c b B _ on (less (plan ns root) B) sh }
-
-  pub over-pushing : {f : Plan → def.Build → def.Build} {ns : List Node} {b : Buffers} → ((φ : Plan) (B : def.Build) → Less B (f φ B)) → Pushing f ns c c b b
-  over-pushing {f} {ns} {b} less = record { stays = stays-refl c (b .words) room; does = λ root o B sh. over-stays o c b B _ on (less (plan ns root) B) sh }
-
-  pub over-pushes : {f : Plan → ℕ → class.Ask → def.Build → def.Build} {a : ℕ} {l : Ask} {b : Buffers} → ((φ : Plan) (v : ℕ) (p : class.Ask) (B : def.Build) → Less B (f φ v p B)) → Pushes f a l c c b b
-  over-pushes {f} {a} {l} {b} less = record { stays = stays-refl c (b .words) room; does = λ φ v p P av o B sh. over-stays o c b B _ on (less φ v p B) sh }
-
--- no place yet, and the next place as the code counts
-pub scan-start : (f : ℕ → def.Build → def.Build) (o : Buffers) (c : Counts) (b : Buffers) (B : def.Build) → Shows o c b B → Shows o c b (scan f 0 0 B)
-unfolding scan
-scan-start f o c b B sh = sh
-
-pub scan-step : (f : ℕ → def.Build → def.Build) (j : ℕ) (o : Buffers) (c : Counts) (b : Buffers) (B : def.Build) → Shows o c b (f j (scan f j 0 B)) → Shows o c b (scan f (j + 1) 0 B)
-scan-step f j o c b B sh = rw (add-one j, scan-next f j 0 B, zero-add j) sh
+use Rattle.rules.specs.Does.{Does, Pushing}
+use Rattle.rules.proofs.Moving.{stays-refl, scan-start, scan-step, strangers}
 
 -- one turn more was due
 pub due-more : (f : ℕ → def.Build → def.Build) (size : def.Build → ℕ) (k : ℕ) (B : def.Build) → Due f size k B → k < size (scan f k 0 B) → Due f size (k + 1) B
@@ -141,16 +94,7 @@ Follows v n s ws r = (v < r) × (r ≤ n) × Others (suc v) r s ws × (r < n →
 pub follows : {c d : Counts} {xs ws : List ℕ} {s : ℕ} (v n r : ℕ) → Next c d xs ws → v < c .variables → getD xs v 0 / 2048 ≡ s → Follows v n (getD ws v 0 / 2048) ws r → Follows v n s ws r
 follows {c} {d} {xs} {ws} v n r next h own f = subst (λ (t : ℕ). Follows v n t ws r) (ap (λ (w : ℕ). w / 2048) (next .stay v h) ∙ own) f
 
--- the states before place n have other parents
-strangers : (s n : ℕ) (o : Buffers) (c : Counts) (b : Buffers) (B : def.Build) → Room c → c .over ≡ 0 → n ≤ c .states → Parents n s (b .states) → Shows o c b B
-    → (j : ℕ) → j < n → getD (B .states) j norecord .parent ≡ s → ⊥
-strangers s n o c b B room off h parents sh j q e = let z = parents j q in omega (arith, sh .exact off .in-states (3 * j) (omega (arith, room .states)), numbers-at (B .states) j .0)
-
-pub push-begins : (φ : Plan) (s v r : ℕ) (p : class.Ask) (n : ℕ) (o : Buffers) (c : Counts) (b : Buffers) (B : def.Build) → Room c → c .over ≡ 0 → n ≤ c .states → Parents n s (b .states) → Shows o c b B
-    → Shows o c b (scan (push φ s v r p) n 0 B)
-push-begins φ s v r p n o c b B room off h parents sh = rw (skipping.push-skips φ s v r p n B (strangers s n o c b B room off h parents sh)) sh
-
--- all of them: phase 3 does nothing
+-- all states have other parents: phase 3 does nothing
 pub childless : {s n : ℕ} {ns : List Node} {c : Counts} {b : Buffers} → Room c → c .over ≡ 0 → c .states ≡ n → Parents n s (b .states) → Pushing (λ φ. phase3 φ s) ns c c b b
 childless {s} {n} {ns} {c} {b} room off e parents =
     record {
@@ -159,7 +103,7 @@ childless {s} {n} {ns} {c} {b} room off e parents =
           rw (skipping.phase3-skips (plan ns root) s B (λ j q. strangers s n o c b B room off (omega arith) parents sh j (omega (arith, sh .exact off .states)))) sh;
     }
 
--- the ends of phases 2 and 3 and of a universal variable
+-- the ends of phases 2 and 3
 module _ (φ : Plan) (s : ℕ) {n : ℕ} {o : Buffers} {c d : Counts} {b b′ : Buffers} (B : def.Build) (off : c .over ≡ 0) (sh : Shows o c b B) where
   pub ends2 : n ≡ c .variables → Shows o d b′ (scan (by φ (rule2 φ) s) n 0 B) → Shows o d b′ (phase2 φ s B)
   unfolding phase2
@@ -168,10 +112,6 @@ module _ (φ : Plan) (s : ℕ) {n : ℕ} {o : Buffers} {c d : Counts} {b b′ : 
   pub ends3 : n ≡ c .variables → Shows o d b′ (scan (by φ (rule3 φ) s) n 0 B) → Shows o d b′ (phase3 φ s B)
   unfolding phase3
   ends3 e h = subst (λ (m : ℕ). Shows o d b′ (scan (by φ (rule3 φ) s) m 0 B)) (e ∙ sh .exact off .variables) h
-
-  pub push-ends : (v r : ℕ) (p : class.Ask) → n ≡ c .states → Shows o d b′ (scan (push φ s v r p) n 0 B) → Shows o d b′ (rule3 φ s v (class.universal r p) B)
-  unfolding rule3
-  push-ends v r p e h = subst (λ (m : ℕ). Shows o d b′ (scan (push φ s v r p) m 0 B)) (e ∙ sh .exact off .states) h
 
 -- a growing loop: once over it is over for good; otherwise at its end it has made the result
 module _ (f : ℕ → def.Build → def.Build) (size : def.Build → ℕ) (k : ℕ) {o : Buffers} {d : Counts} {b : Buffers} (B R : def.Build) (st : Settles f size B R) (due : Due f size k B) (sh : Shows o d b (scan f k 0 B)) where

@@ -1,10 +1,9 @@
 -- What the build leaves in its lent buffers (document 01, "Answers by number"): the build of the definition, or 15 and zeros. Assumes nothing.
-use Prim.Native.Nat.{ℕ, _*_, _≤_}
+use Prim.Native.Nat.{ℕ, _*_}
 use mathlib.Core.Path.{_≡_}
 use mathlib.Core.Bool.{cond}
 use mathlib.Core.List.{List, []}
 use lib.IntN.{ℤ, pos}
-use lib.ListN.{length}
 use Rattle.ground.specs.Buffer.{filled}
 use Rattle.encoding.specs.Build as def
 use Rattle.encoding.specs.Build.{states#, variables#, clauses#}
@@ -12,11 +11,6 @@ use Rattle.encoding.specs.Limits.{maxStates, maxVariables, maxClauses, oversize
 use Rattle.encoding.specs.declared.counts.Build.{Build}
 use Rattle.build.specs.declared.Built.{Built}
 use Rattle.build.specs.declared.Built.the-variants.{Whole, Over}
-
--- "a lent table of state records (512; parent, relation, making variable); variable words (4,095, 32 bits); clause numbers (15,000, signed 16 bits)":
--- none is shorter than its size
-abbrev pub Long : List ℕ → List ℕ → List ℤ → Type 0
-Long states words clauses = (3 * maxStates ≤ length states) × (maxVariables ≤ length words) × (3 * maxClauses ≤ length clauses)
 
 -- "For 1, 2 and 3 the totals are those of the build"
 abbrev pub totals : def.Build → Build

@@ -1,7 +1,5 @@
 // Document 01, "The build", over lent buffers: state records, variable words and clauses, filled by one pass over the states.
-mod classes;
 mod phases;
-mod rules;
 mod states;
 
 ghost use mathlib.Core.Path.{_≡_};
@@ -10,8 +8,9 @@ ghost use lib.ListN.{length};
 ghost use Rattle.book.specs.Rulebook.{tableOf};
 ghost use Rattle.book.specs.Told.{Sound};
 ghost use Rattle.encoding.specs.Build.{built};
-ghost use Rattle.build.specs.Filled.{Long, Filled};
-ghost use Rattle.build.specs.Does.{Cleared};
+ghost use Rattle.encoding.specs.Limits.{Long};
+ghost use Rattle.build.specs.Filled.{Filled};
+ghost use Rattle.build.specs.Steps.{Cleared};
 use encoding::Build;
 use ground::clear_i16;
 use ground::clear_u16;

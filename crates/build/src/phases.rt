@@ -5,17 +5,17 @@ ghost use lib.ListN.{length};
 ghost use Rattle.book.specs.Rulebook.{tableOf};
 ghost use Rattle.book.specs.Told.{Sound};
 ghost use Rattle.encoding.specs.Build as def;
-ghost use Rattle.encoding.specs.Limits.{maxVariables, maxClauses};
+ghost use Rattle.encoding.specs.Limits.{maxVariables, maxClauses, Long};
 ghost use Rattle.encoding.specs.Index.{Indexed};
 ghost use Rattle.encoding.specs.Shows.{Room, Low, Parents, buffers};
-ghost use Rattle.build.specs.Filled.{Long};
-ghost use Rattle.build.specs.Does.{Making, Pushing, Settling, Expands};
-use crate::rules::rule1;
-use crate::rules::rule2;
-use crate::rules::rule3;
+ghost use Rattle.rules.specs.Does.{Making, Pushing};
+ghost use Rattle.build.specs.Steps.{Settling, Expands};
 use encoding::Counts;
 use encoding::first_of;
 use encoding::next_of;
+use rules::rule1;
+use rules::rule2;
+use rules::rule3;
 
 // "1. Its keys by variable number, newly added ones too." One turn for each variable of the state, also for those that it adds.
 fn phase1(

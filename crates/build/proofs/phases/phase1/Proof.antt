@@ -12,8 +12,9 @@ use Rattle.encoding.specs.Index.{Indexed}
 use Rattle.encoding.specs.Limits.{maxVariables}
 use Rattle.encoding.specs.Shows.{Buffers, buffers, Shows}
 use Rattle.encoding.proofs.Settling.{Due}
-use Rattle.build.specs.Does.{Stays}
-use Rattle.build.proofs.Looping.{stays-refl, stays-then, begins1, turns1, due-begins, due-turns, follows, settles}
+use Rattle.rules.specs.Does.{Stays}
+use Rattle.rules.proofs.Moving.{stays-refl, stays-then}
+use Rattle.build.proofs.Looping.{begins1, turns1, due-begins, due-turns, follows, settles}
 use Rattle.build.proofs.phases.phase1.Statement.{statement}
 use Rattle.build.proofs.phases.phase1.Tie as tie
 

@@ -9,8 +9,9 @@ use Rattle.encoding.specs.Build.{plan, scan, by, rule2}
 use Rattle.encoding.specs.Index.{Indexed}
 use Rattle.encoding.specs.Shows.{buffers}
 use Rattle.encoding.proofs.Totals.{phase2-less}
-use Rattle.build.proofs.Looping.{over-making, moves-refl, moves-then, begins2, turns2, follows, ends2}
-use Rattle.build.specs.Does.{Moves, Does}
+use Rattle.rules.specs.Does.{Moves, Does}
+use Rattle.rules.proofs.Moving.{over-making, moves-refl, moves-then}
+use Rattle.build.proofs.Looping.{begins2, turns2, follows, ends2}
 use Rattle.build.proofs.phases.phase2.Statement.{statement}
 use Rattle.build.proofs.phases.phase2.Tie as tie
 

@@ -9,8 +9,9 @@ use Rattle.encoding.specs.Build.{plan, scan, by, rule3}
 use Rattle.encoding.specs.Index.{Indexed}
 use Rattle.encoding.specs.Shows.{buffers}
 use Rattle.encoding.proofs.Totals.{phase3-less}
-use Rattle.build.proofs.Looping.{over-pushing, childless, stays-refl, stays-then, begins3, turns3, follows, ends3}
-use Rattle.build.specs.Does.{Stays, Does}
+use Rattle.rules.specs.Does.{Stays, Does}
+use Rattle.rules.proofs.Moving.{over-pushing, stays-refl, stays-then}
+use Rattle.build.proofs.Looping.{childless, begins3, turns3, follows, ends3}
 use Rattle.build.proofs.phases.phase3.Statement.{statement}
 use Rattle.build.proofs.phases.phase3.Tie as tie
 

@@ -8,8 +8,8 @@ use Rattle.book.specs.Rulebook.{tableOf}
 use Rattle.encoding.specs.Index.{Indexed}
 use Rattle.encoding.specs.declared.counts.Counts.{Counts}
 use Rattle.encoding.proofs.Bounds.{asked-small}
-use Rattle.build.proofs.Looping.{indexed-written}
-use Rattle.build.proofs.Doing.{begin-does}
+use Rattle.rules.proofs.Moving.{indexed-written}
+use Rattle.build.proofs.Beginning.{begin-does}
 use Rattle.build.proofs.states.begin.Statement.{statement}
 use Rattle.build.proofs.states.begin.Tie as tie
 

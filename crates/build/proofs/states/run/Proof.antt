@@ -14,7 +14,8 @@ use Rattle.encoding.specs.Limits.{maxStates}
 use Rattle.encoding.specs.Shows.{Room, Low, Parents, Buffers, buffers, Shows}
 use Rattle.encoding.proofs.Indexing.{indexed-start}
 use Rattle.encoding.proofs.Settling.{Due, Settled, after}
-use Rattle.build.proofs.Looping.{scan-start, scan-step, due-more, settles, settles-over}
+use Rattle.rules.proofs.Moving.{scan-start, scan-step}
+use Rattle.build.proofs.Looping.{due-more, settles, settles-over}
 use Rattle.build.proofs.states.run.Statement.{statement}
 use Rattle.build.proofs.states.run.Tie as tie
 

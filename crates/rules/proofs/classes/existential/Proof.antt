@@ -1,10 +1,10 @@
--- `build::classes::existential` meets its contract: a state, an asking and a clause. Assumes nothing.
+-- `rules::classes::existential` meets its contract: a state, an asking and a clause. Assumes nothing.
 use native.Mathlib.Omega.{arith}
 use borrow.Author.Needs.{needs}
-use Rattle.build.proofs.Looping.{indexed-made, indexed-written}
-use Rattle.build.proofs.Doing.{existential-over, existential-does}
-use Rattle.build.proofs.classes.existential.Statement.{statement}
-use Rattle.build.proofs.classes.existential.Tie as tie
+use Rattle.rules.proofs.Moving.{indexed-made, indexed-written}
+use Rattle.rules.proofs.Doing.{existential-over, existential-does}
+use Rattle.rules.proofs.classes.existential.Statement.{statement}
+use Rattle.rules.proofs.classes.existential.Tie as tie
 
 make-requires : tie.Need-make-requires
 make-requires c κs = search needs

@@ -1,14 +1,14 @@
--- `build::classes::push` meets its contract: the record that was read is the definition's, and says whether there is anything to do. Assumes nothing.
+-- `rules::classes::push` meets its contract: the record that was read is the definition's, and says whether there is anything to do. Assumes nothing.
 use Prim.Native.Nat.{_+_, _*_}
 use native.Mathlib.Omega.{arith}
 use mathlib.Core.Path.{ap}
 use borrow.Author.Needs.{needs}
 use Rattle.encoding.specs.declared.making.Record.{Record}
 use Rattle.encoding.proofs.Totals.{push-less}
-use Rattle.build.proofs.Looping.{over-pushes, indexed-written}
-use Rattle.build.proofs.Doing.{push-skips, push-does}
-use Rattle.build.proofs.classes.push.Statement.{statement}
-use Rattle.build.proofs.classes.push.Tie as tie
+use Rattle.rules.proofs.Moving.{over-pushes, indexed-written}
+use Rattle.rules.proofs.Doing.{push-skips, push-does}
+use Rattle.rules.proofs.classes.push.Statement.{statement}
+use Rattle.rules.proofs.classes.push.Tie as tie
 
 returns : tie.Need-returns
 returns c =

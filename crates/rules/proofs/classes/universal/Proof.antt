@@ -1,4 +1,4 @@
--- `build::classes::universal` meets its contract. The invariant: at place j stands what the definition's scan over the states gives at j; before the
+-- `rules::classes::universal` meets its contract. The invariant: at place j stands what the definition's scan over the states gives at j; before the
 -- first successor it gives nothing. The measure is what is left of the states. Assumes nothing.
 use Prim.Native.Nat.{ℕ, suc, _≤_, _-_}
 use native.Mathlib.Omega.{arith}
@@ -9,10 +9,10 @@ use Rattle.signed.specs.Signed as class
 use Rattle.encoding.specs.Build.{Plan, scan, push}
 use Rattle.encoding.specs.Index.{Indexed}
 use Rattle.encoding.specs.Shows.{buffers}
-use Rattle.build.specs.Does.{Part, Stays, Does}
-use Rattle.build.proofs.Looping.{stays-refl, stays-then, scan-step, push-begins, push-ends}
-use Rattle.build.proofs.classes.universal.Statement.{statement}
-use Rattle.build.proofs.classes.universal.Tie as tie
+use Rattle.rules.specs.Does.{Part, Stays, Does}
+use Rattle.rules.proofs.Moving.{stays-refl, stays-then, scan-step, push-begins, push-ends}
+use Rattle.rules.proofs.classes.universal.Statement.{statement}
+use Rattle.rules.proofs.classes.universal.Tie as tie
 
 abbrev Inv-loop : tie.InvT-loop
 Inv-loop states words₀ finder₀ own₀ clauses₀ before s a r l n d₀ j₀ words finder own clauses d j =

@@ -27,8 +27,8 @@ use Rattle.encoding.specs.declared.counts.Counts.{Counts}
 use Rattle.encoding.proofs.Facts.{Parts}
 use Rattle.encoding.proofs.Bounds.{class-small}
 use Rattle.encoding.proofs.Words.{word-state, word-key, word-at}
-use Rattle.build.specs.Does.{Part, Sees, TwoParts, Opens, Pushes, Asking, Making, Pushing}
-use Rattle.build.proofs.Looping.{stays-refl, moves-refl}
+use Rattle.rules.specs.Does.{Part, Sees, TwoParts, Opens, Pushes, Asking, Making, Pushing}
+use Rattle.rules.proofs.Moving.{stays-refl, moves-refl}
 
 -- `role` reads a word: k is its key's number
 pub sees-in : (ns : List Node) (v : ℕ) (ws : List ℕ) (k : ℕ) (r : Class) → k ≡ getD ws v 0 % 2048 → Tame r × ((m : class.Key) → Small m → number m ≡ k → r ≡ classOf (classed ns (plus m))) → Sees ns v ws r

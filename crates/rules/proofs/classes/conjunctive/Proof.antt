@@ -1,11 +1,11 @@
--- `build::classes::conjunctive` meets its contract: two askings and two clauses, one after another. Assumes nothing.
+-- `rules::classes::conjunctive` meets its contract: two askings and two clauses, one after another. Assumes nothing.
 use native.Mathlib.Omega.{arith}
 use mathlib.Core.Path.{_∙_}
 use borrow.Author.Needs.{needs}
-use Rattle.build.proofs.Looping.{indexed-written}
-use Rattle.build.proofs.Doing.{conjunctive-does}
-use Rattle.build.proofs.classes.conjunctive.Statement.{statement}
-use Rattle.build.proofs.classes.conjunctive.Tie as tie
+use Rattle.rules.proofs.Moving.{indexed-written}
+use Rattle.rules.proofs.Doing.{conjunctive-does}
+use Rattle.rules.proofs.classes.conjunctive.Statement.{statement}
+use Rattle.rules.proofs.classes.conjunctive.Tie as tie
 
 ask-requires : tie.Need-ask-requires
 ask-requires c κs = search needs

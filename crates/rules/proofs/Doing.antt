@@ -5,22 +5,21 @@ use native.Mathlib.Omega.{arith}
 use native.Mathlib.Decide.{ℕ-discrete}
 use native.Mathlib.Numerals.{add-one}
 use mathlib.Core.Path.{_≡_, refl, sym, ap, ap₂, _∙_, subst}
-use mathlib.Core.Bool.{true, false, _&&_}
+use mathlib.Core.Bool.{false, _&&_}
 use mathlib.Core.List.{List}
 use borrow.Author.Tests.{eq-eqb, ne-eqb}
 use lib.Dec.{eqb}
 use lib.IntN.{ℤ}
 use lib.ListN.{getD}
 use Rattle.ground.proofs.Lists.{length-snoc}
-use Rattle.logic.specs.Table.{Node}
 use Rattle.signed.specs.Signed as class
-use Rattle.signed.specs.Signed.{number, signed}
+use Rattle.signed.specs.Signed.{number}
 use Rattle.signed.specs.declared.Ask.{Ask}
-use Rattle.clauses.specs.Clause.{literal, minus, one, two, three}
+use Rattle.clauses.specs.Clause.{literal, minus, two, three}
 use Rattle.encoding.specs.Build as def
 use Rattle.encoding.specs.Build.{place, insert, ask, asked, write, make, rule1, rule2, push, norecord, states#}
 use Rattle.encoding.specs.Limits.{maxStates}
-use Rattle.encoding.specs.Shows.{Room, Buffers, buffers, Shows, Next, Asks, Writes, Makes, recordAt, atStart}
+use Rattle.encoding.specs.Shows.{Room, Buffers, buffers, Shows, Asks, Writes, Makes, recordAt}
 use Rattle.encoding.specs.declared.counts.Counts.{Counts}
 use Rattle.encoding.specs.declared.asking.Asked.{Asked}
 use Rattle.encoding.specs.declared.making.Record.{Record}
@@ -28,8 +27,8 @@ use Rattle.encoding.proofs.Variables.{place-stays, place-in}
 use Rattle.encoding.proofs.Totals.{less-then, ask-less, write-less}
 use Rattle.encoding.proofs.Rows.{numbers-at}
 use Rattle.encoding.proofs.Steps.{over-stays, next-then, write-next, make-next, made-then, made-counts}
-use Rattle.build.proofs.Looping.{stays-refl}
-use Rattle.build.specs.Does.{Part, TwoParts, Opens, Pushes, Begins, bare}
+use Rattle.rules.specs.Does.{Part, TwoParts, Opens, Pushes}
+use Rattle.rules.proofs.Moving.{stays-refl}
 
 -- a part's number and sign
 part-key : (l : Ask) (p : class.Ask) → Part l p → number (p .key) ≡ l .key
@@ -43,13 +42,13 @@ literal-asked l p h s x A e = ap₂ literal (ap (λ (z : Ask). z .minus) (h .is)
 -- one asking
 module _ {c : Counts} {s : ℕ} {l : Ask} {ws ws′ : List ℕ} {x : Asked} (a : Asks c s (l .key) ws ws′ x) (p : class.Ask) (P : Part l p) (o : Buffers) (st : List ℕ) (cs : List ℤ) (B : def.Build)
     (sh : Shows o c (buffers st ws cs) B) where
-  asks-part : Shows o (x .counts) (buffers st ws′ cs) (ask s p B)
+  pub asks-part : Shows o (x .counts) (buffers st ws′ cs) (ask s p B)
   asks-part = a .does o st cs B p (P .small) (part-key l p P) sh
 
   place-part : x .counts .over ≡ 0 → x .variable ≡ suc (place s (p .key) (ask s p B .variables))
   place-part f = a .named o st cs B p (P .small) (part-key l p P) sh f
 
-  literal-part : x .counts .over ≡ 0 → literal (l .minus) (x .variable) ≡ asked s p (ask s p B)
+  pub literal-part : x .counts .over ≡ 0 → literal (l .minus) (x .variable) ≡ asked s p (ask s p B)
   literal-part f = literal-asked l p P s (x .variable) (ask s p B) (place-part f)
 
 -- two askings at one state: the first variable stays where it is
@@ -180,20 +179,3 @@ module _ {c : Counts} {s r a j : ℕ} {l : Ask} {st ws : List ℕ} {cs : List �
             rw (eq-eqb (getD (B .states) j norecord .parent) s (sym (h .0) ∙ ep), eq-eqb (getD (B .states) j norecord .relation) r (sym (h .1) ∙ er))
             (w .does o st ws′ A (three (minus (suc v)) (minus m) (asked (suc j) p A)) refl (λ g. i ∙ rw (av, h .2, literal-part ay p P o st cs B sh g)) (asks-part ay p P o st cs B sh));
       }
-
--- the start
-pub begin-does : {c : Counts} {ws ws′ : List ℕ} {cs cs′ k : List ℤ} {x : Asked} {r : Counts} (l : Ask) (ns : List Node) (root : ℕ) → c ≡ atStart → Part l (signed ns root false) → Asks c 1 (l .key) ws ws′ x → Writes (x .counts) k cs cs′ r
-    → k ≡ one (literal (l .minus) (x .variable)) → Begins root ns r ws ws′ cs cs′
-unfolding def.start
-begin-does {c} {ws} {ws′} {cs} {cs′} {k} {x} {r} l ns root e P ax w i =
-    record {
-      stays = record {
-        next = subst (λ (z : Counts). Next z r ws ws′) e (next-then (ax .next) (write-next w ws′));
-        same = w .states ∙ ax .same ∙ ap (λ (z : Counts). z .states) e;
-      };
-      does = λ o st sh.
-          let p = signed ns root false in
-          let A = ask 1 p bare in
-          let s0 : Shows o c (buffers st ws cs) bare = subst (λ (z : Counts). Shows o z (buffers st ws cs) bare) (sym e) sh in
-          w .does o st ws′ A (one (asked 1 p A)) refl (λ g. i ∙ rw (literal-part ax p P o st cs bare s0 g)) (asks-part ax p P o st cs bare s0);
-    }

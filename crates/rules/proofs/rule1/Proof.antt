@@ -1,12 +1,12 @@
--- `build::rules::rule1` meets its contract, arm by arm; three of them do nothing, as the definition does. Assumes nothing.
+-- `rules::rule1` meets its contract, arm by arm; three of them do nothing, as the definition does. Assumes nothing.
 use native.Mathlib.Omega.{arith}
 use mathlib.Core.Path.{ap}
 use borrow.Author.Needs.{needs}
 use Rattle.encoding.proofs.Totals.{by1-less}
-use Rattle.build.proofs.Seeing.{kind, arm-conjunctive, arm-disjunctive, rests1, tame-conjunctive, tame-disjunctive}
-use Rattle.build.proofs.Looping.{over-asking}
-use Rattle.build.proofs.rules.rule1.Statement.{statement}
-use Rattle.build.proofs.rules.rule1.Tie as tie
+use Rattle.rules.proofs.Seeing.{kind, arm-conjunctive, arm-disjunctive, rests1, tame-conjunctive, tame-disjunctive}
+use Rattle.rules.proofs.Moving.{over-asking}
+use Rattle.rules.proofs.rule1.Statement.{statement}
+use Rattle.rules.proofs.rule1.Tie as tie
 
 returns : tie.Need-returns
 returns c =

@@ -1,10 +1,10 @@
--- `build::classes::disjunctive` meets its contract: two askings and a clause. Assumes nothing.
+-- `rules::classes::disjunctive` meets its contract: two askings and a clause. Assumes nothing.
 use native.Mathlib.Omega.{arith}
 use borrow.Author.Needs.{needs}
-use Rattle.build.proofs.Looping.{indexed-written}
-use Rattle.build.proofs.Doing.{disjunctive-does}
-use Rattle.build.proofs.classes.disjunctive.Statement.{statement}
-use Rattle.build.proofs.classes.disjunctive.Tie as tie
+use Rattle.rules.proofs.Moving.{indexed-written}
+use Rattle.rules.proofs.Doing.{disjunctive-does}
+use Rattle.rules.proofs.classes.disjunctive.Statement.{statement}
+use Rattle.rules.proofs.classes.disjunctive.Tie as tie
 
 ask-requires : tie.Need-ask-requires
 ask-requires c κs = search needs

@@ -1,19 +1,20 @@
-// The three rules at one place v: what a phase does to the variable of state s that stands there.
+// Document 01, "The build": what is done to a variable. The three rules at one place v: what a phase does to the variable of state s that stands there.
+mod classes;
+
 ghost use mathlib.Core.Path.{_≡_};
 ghost use Prim.Native.Nat.{_*_, _/_, _≤_, _<_};
 ghost use lib.ListN.{length, getD};
 ghost use Rattle.book.specs.Rulebook.{tableOf};
 ghost use Rattle.book.specs.Told.{Sound};
 ghost use Rattle.encoding.specs.Build as def;
-ghost use Rattle.encoding.specs.Limits.{maxVariables, maxClauses};
+ghost use Rattle.encoding.specs.Limits.{maxVariables, maxClauses, Long};
 ghost use Rattle.encoding.specs.Index.{Indexed};
 ghost use Rattle.encoding.specs.Shows.{Room, Low, Parents, buffers};
-ghost use Rattle.build.specs.Filled.{Long};
-ghost use Rattle.build.specs.Does.{Sees, Asking, Making, Pushing};
-use crate::classes::conjunctive;
-use crate::classes::disjunctive;
-use crate::classes::existential;
-use crate::classes::universal;
+ghost use Rattle.rules.specs.Does.{Sees, Asking, Making, Pushing};
+use classes::conjunctive;
+use classes::disjunctive;
+use classes::existential;
+use classes::universal;
 use encoding::Counts;
 use encoding::key_at;
 use signed::Class;

@@ -1,12 +1,12 @@
--- `build::rules::rule3` meets its contract, arm by arm; four of them do nothing, as the definition does. Assumes nothing.
+-- `rules::rule3` meets its contract, arm by arm; four of them do nothing, as the definition does. Assumes nothing.
 use native.Mathlib.Omega.{arith}
 use mathlib.Core.Path.{ap}
 use borrow.Author.Needs.{needs}
 use Rattle.encoding.proofs.Totals.{by3-less}
-use Rattle.build.proofs.Seeing.{kind, arm-universal, rests3, tame-universal}
-use Rattle.build.proofs.Looping.{over-pushing}
-use Rattle.build.proofs.rules.rule3.Statement.{statement}
-use Rattle.build.proofs.rules.rule3.Tie as tie
+use Rattle.rules.proofs.Seeing.{kind, arm-universal, rests3, tame-universal}
+use Rattle.rules.proofs.Moving.{over-pushing}
+use Rattle.rules.proofs.rule3.Statement.{statement}
+use Rattle.rules.proofs.rule3.Tie as tie
 
 returns : tie.Need-returns
 returns c =

@@ -1,9 +1,9 @@
--- `build::rules::role` meets its contract: a word tells its key. Assumes nothing.
+-- `rules::role` meets its contract: a word tells its key. Assumes nothing.
 use borrow.Author.Needs.{needs}
 use Rattle.book.specs.Rulebook.{tableOf}
-use Rattle.build.proofs.Seeing.{sees-in}
-use Rattle.build.proofs.rules.role.Statement.{statement}
-use Rattle.build.proofs.rules.role.Tie as tie
+use Rattle.rules.proofs.Seeing.{sees-in}
+use Rattle.rules.proofs.role.Statement.{statement}
+use Rattle.rules.proofs.role.Tie as tie
 
 key-at-requires : tie.Need-key-at-requires
 key-at-requires c κs = search needs

@@ -1,12 +1,12 @@
--- `build::rules::rule2` meets its contract, arm by arm; four of them do nothing, as the definition does. Assumes nothing.
+-- `rules::rule2` meets its contract, arm by arm; four of them do nothing, as the definition does. Assumes nothing.
 use native.Mathlib.Omega.{arith}
 use mathlib.Core.Path.{ap}
 use borrow.Author.Needs.{needs}
 use Rattle.encoding.proofs.Totals.{by2-less}
-use Rattle.build.proofs.Seeing.{kind, arm-existential, rests2, tame-existential}
-use Rattle.build.proofs.Looping.{over-making}
-use Rattle.build.proofs.rules.rule2.Statement.{statement}
-use Rattle.build.proofs.rules.rule2.Tie as tie
+use Rattle.rules.proofs.Seeing.{kind, arm-existential, rests2, tame-existential}
+use Rattle.rules.proofs.Moving.{over-making}
+use Rattle.rules.proofs.rule2.Statement.{statement}
+use Rattle.rules.proofs.rule2.Tie as tie
 
 returns : tie.Need-returns
 returns c =
