@@ -1,6 +1,5 @@
 // What is done to a variable of each class. `a` is the variable, l and m are its parts; the classes are the four of document 01.
 ghost use mathlib.Core.Path.{_≡_};
-ghost use mathlib.Core.Bool.{false};
 ghost use Prim.Native.Nat.{_+_, _*_, _≤_, _<_};
 ghost use lib.ListN.{length};
 ghost use Rattle.signed.specs.Signed as class;
