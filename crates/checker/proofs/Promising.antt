@@ -1,27 +1,22 @@
 -- The definition `checked` case by case, and what an answer of it means: the meaning follows from the definition, whatever the code. Assumes nothing.
-use Prim.Native.Nat.{ℕ, suc, _+_, _*_, _^_, _≤_, _<_}
+use Prim.Native.Nat.{ℕ, _+_, _*_, _^_, _≤_}
 use native.Mathlib.Omega.{arith}
 use native.Mathlib.Decide.{decLe}
 use mathlib.Core.Path.{_≡_, refl, sym, ap, _∙_, subst}
-use mathlib.Core.Logic.{_↔_}
 use mathlib.Core.Bool.{Bool, true, false, _&&_, cond}
 use mathlib.Core.List.{List}
-use borrow.Author.Tests.{lt-leb, le-leb, leb-true}
-use lib.Dec.{T, leb, leb→le, ltb, nltb→le}
-use lib.IntN.{pos}
+use lib.Dec.{T, leb, leb→le, ltb}
 use lib.ListN.{length, length-map, length-replicate}
 use mir.Facts.{and-yes}
 use Rattle.ground.proofs.Tests.{true-false}
-use Rattle.ground.specs.Buffer.{filled}
 use Rattle.logic.specs.Table.{Node}
 use Rattle.logic.specs.Truth.{Holds}
 use Rattle.logic.specs.Finite.{Finite, State, structure}
 use Rattle.book.specs.Rulebook.{Book, book, accepted, refused}
 use Rattle.book.specs.declared.Header.{Header}
-use Rattle.book.proofs.Accepted.{Lawful, lawful}
 use Rattle.encoding.specs.Build.{Build, built, states#, variables#, clauses#}
-use Rattle.encoding.specs.Limits.{maxStates, maxVariables, maxClauses, oversized, stateBuffer, wordBuffer}
-use Rattle.search.specs.Search.{Run, sat, unsat, run, nodes, final, finishes, left}
+use Rattle.encoding.specs.Limits.{maxStates, maxVariables, maxClauses, oversized, wordBuffer}
+use Rattle.search.specs.Search.{Run, sat, unsat, run, final, finishes, left}
 use Rattle.search.proofs.Theorems.{yes-long}
 use Rattle.structure.specs.Structure.{readBack}
 use Rattle.structure.specs.Evaluation.{lies}

@@ -1,14 +1,12 @@
 -- Signed 16-bit numbers: a local of i16 holds bits, so code that computes with x computes with `read x`, which is x where x fits. Assumes nothing.
-use Prim.Native.Nat.{ℕ, zero, suc, _-_, _^_, _≤_, _<_}
+use Prim.Native.Nat.{ℕ, zero, suc, _-_, _<_}
 use native.Mathlib.Omega.{arith}
-use mathlib.Core.Path.{_≡_, refl, sym, ap, _∙_, subst}
+use mathlib.Core.Path.{_≡_, refl}
 use mathlib.Core.Bool.{Bool, true, false}
-use borrow.Author.Tests.{lt-ltb, ltb-true}
-use lib.Dec.{T}
+use borrow.Author.Tests.{lt-ltb}
 use lib.IntN.{ℤ, pos, negsuc, negℤ, natAbs, _-ℤ_, +ℤ-idl}
-use lib.Signed.{mag, nonNeg, ltZ}
-use mir.Syntax.{w16, w64}
-use mir.Val.{SFits, Fits, toZ, ofZ}
+use mir.Syntax.{w16}
+use mir.Val.{SFits, toZ, ofZ}
 use mir.Facts.{toZ-ofZ}
 use Rattle.clauses.specs.Clause.{literal}
 

@@ -2,20 +2,20 @@
 use Prim.Native.Nat.{ℕ, zero, suc, _+_, _-_, _≤_, _<_}
 use native.Mathlib.Omega.{arith}
 use native.Mathlib.Decide.{ℕ-discrete, decLe, decLt}
-use native.Mathlib.Nat.{add-zero, zero-add, le-refl}
+use native.Mathlib.Nat.{zero-add, le-refl}
 use mathlib.Core.Path.{_≡_, refl, sym, ap, _∙_, subst}
 use mathlib.Core.Logic.{_⊎_, inl, inr}
-use mathlib.Core.Option.{Option, none, some}
-use mathlib.Core.Bool.{Bool, true, false, not, _&&_, cond}
-use mathlib.Core.List.{List, [], _∷_, _++_, List·Memᴰ·head, List·Memᴰ·eq-of-singleton}
-use lib.Dec.{T, T-not, eqb, eqb→eq, eqb-refl}
-use lib.ListN.{getElem?, getD, length, length-append}
+use mathlib.Core.Option.{some}
+use mathlib.Core.Bool.{_&&_}
+use mathlib.Core.List.{List, List·Memᴰ·head, List·Memᴰ·eq-of-singleton}
+use lib.Dec.{T-not, eqb, eqb→eq, eqb-refl}
+use lib.ListN.{getD, length, length-append}
 use Rattle.signed.specs.Signed.{Key, Ask, plus, Class, leaf, conjunctive, disjunctive, existential, universal}
 use Rattle.encoding.specs.Build.{Variable, Record, Build, place, insert, ask, asked, write, make, variables#, states#, Plan, rule1, rule2, push, rule3, role, by, scan, rounds, phase1, phase2, phase3, expand, start, build, norecord, novariable}
 use Rattle.clauses.specs.Clause.{Clause, minus, one, three}
 use Rattle.ground.proofs.Lists.{look-lt, look-getD, getD-look, look-at}
 use Rattle.ground.proofs.Tests.{by-cases, none-some, some-inj}
-use Rattle.encoding.proofs.Variables.{place-has, insert-length, variable}
+use Rattle.encoding.proofs.Variables.{place-has, insert-length}
 use Rattle.encoding.proofs.Loops.{Turns, loops, loops-zero, join, join-end, stops, beyond, grows, rounds-grow, scan-add}
 use Rattle.encoding.proofs.Facts.{Var, Is, Made, In, lit, Due, Grammar, why-root, Finished, Justified}
 use Rattle.encoding.proofs.Grow.{Grows, stay, wider, then, Valid}

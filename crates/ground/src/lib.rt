@@ -1,7 +1,7 @@
 // The ground floor: what every crate above needs of tests, lists and lent buffers. The code clears the first n places of a buffer.
 ghost use mathlib.Core.Path.{_≡_};
 ghost use mathlib.Core.Bool.{_&&_};
-ghost use Prim.Native.Nat.{ℕ, _≤_};
+ghost use Prim.Native.Nat.{_≤_};
 ghost use lib.IntN.{pos};
 ghost use lib.ListN.{length};
 ghost use Rattle.ground.specs.Buffer.{cleared};

@@ -3,7 +3,6 @@ mod publishing;
 mod reading;
 mod report;
 
-ghost use mathlib.Core.Path.{_≡_};
 ghost use Rattle.records.specs.Table.{numbersOf};
 ghost use Rattle.checker.specs.Checked.{lent};
 ghost use Rattle.host.specs.Called.{Numbered, Into, Judged};

@@ -1,17 +1,16 @@
 -- From the verdict of the search to the answer by number: the proofs of `Results`. Assumes nothing.
-use Prim.Native.Nat.{ℕ, suc, _+_, _%_, _^_, _≤_, _<_}
+use Prim.Native.Nat.{ℕ, _+_, _%_, _^_, _≤_, _<_}
 use native.Mathlib.Omega.{arith}
 use mathlib.Core.Path.{_≡_, refl, sym, ap, _∙_, subst}
 use mathlib.Core.Logic.{_↔_}
-use mathlib.Core.Bool.{Bool, true, false, cond}
+use mathlib.Core.Bool.{true, false, cond}
 use mathlib.Core.List.{List, map}
 use borrow.Author.Tests.{le-leb, lt-leb}
-use lib.Dec.{leb}
 use lib.ListN.{length}
 use native.Mathlib.Decide.{decLe}
 use Rattle.logic.specs.Table.{Node}
 use Rattle.logic.specs.Truth.{Structure, Holds, TwoValued}
-use Rattle.logic.specs.Finite.{Finite, State, structure, Somewhere, Nowhere}
+use Rattle.logic.specs.Finite.{State, structure, Somewhere, Nowhere}
 use Rattle.logic.proofs.Evaluation.{two-valued}
 use Rattle.book.specs.Rulebook.{book, accepted}
 use Rattle.book.specs.declared.Header.{Header}

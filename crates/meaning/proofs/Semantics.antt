@@ -1,7 +1,7 @@
 -- What is asked for means what its signed formula says, in any structure whose truth is two-valued. Assumes nothing.
-use Prim.Native.Nat.{ℕ, zero, suc, _≤_, _<_}
+use Prim.Native.Nat.{ℕ, zero, suc, _<_}
 use native.Mathlib.Omega.{arith}
-use mathlib.Core.Path.{_≡_, refl, sym, ap, _∙_}
+use mathlib.Core.Path.{_≡_, refl, ap, _∙_}
 use mathlib.Core.Logic.{_⊎_, inl, inr, _↔_}
 use mathlib.Core.Bool.{Bool, true, false, not}
 use mathlib.Core.List.{List}
@@ -10,7 +10,7 @@ use lib.ListN.{length}
 use Rattle.ground.proofs.Tests.{true-false}
 use Rattle.logic.specs.Table.{Node, atom, neg, and, or, imp, box, dia, children, Kids, Below, kids-map, node, at-step}
 use Rattle.logic.specs.Truth.{Structure, meaning, Holds, TwoValued}
-use Rattle.signed.specs.Signed.{Key, atomic, solid, Ask, plus, stripped, signed, class, classed}
+use Rattle.signed.specs.Signed.{Key, atomic, solid, Ask, stripped, signed, class, classed}
 use Rattle.signed.proofs.Signed.{signed-step}
 use Rattle.encoding.proofs.Formulas.{Solid, GoodAt, Good, classAt}
 use Rattle.meaning.proofs.Sound.{Says}

@@ -1,8 +1,7 @@
 -- Document 01, "Books to try": M1 to M10 as one table, with the full clause lists, the totals, the answers and the counts. The books are written
 -- as 01 writes them and laid out as bytes by "The rulebook"; the table is proved by computation over the definitions. Assumes nothing.
-use Prim.Native.Nat.{ℕ, zero, suc, pred, _+_, _*_, _/_, _%_}
+use Prim.Native.Nat.{ℕ, pred, _+_, _*_, _/_, _%_}
 use mathlib.Core.Path.{_≡_, refl}
-use mathlib.Core.Bool.{Bool, true, false}
 use mathlib.Core.List.{List, [], _∷_, _++_, map}
 use lib.IntN.{ℤ, pos, negℤ}
 use lib.ListN.{length}
@@ -10,7 +9,7 @@ use Rattle.logic.specs.Table.{Node, atom, neg, and, or, imp, box, dia, children
 use Rattle.book.specs.Rulebook.{Book, book, accepted, refused, number16, number32, header, between, ranges, extent, if-kept, rows, nodeOf, nodeAt, before, nodesFrom}
 use Rattle.signed.specs.Signed.{stripped, signed, class, classed}
 use Rattle.clauses.specs.Clause.{Clause, literal, one, two, three}
-use Rattle.encoding.specs.Build.{Build, sameKey, same, place, insert, ask, asked, write, make, start, scan, rounds, rule1, rule2, push, rule3, role, by, phase1, phase2, phase3, expand, build, built}
+use Rattle.encoding.specs.Build.{sameKey, same, place, insert, ask, asked, write, make, start, scan, rounds, rule1, rule2, push, rule3, role, by, phase1, phase2, phase3, expand, build, built}
 use Rattle.encoding.specs.Limits.{oversized}
 use Rattle.search.specs.Search.{turned, value, mark, sameLiteral, met, allMet, unassigned, allSame, forced, says, zeros, lowest, settleIn, settle, node, run, nodes, finishes}
 use Rattle.search.specs.Search as search

@@ -1,7 +1,7 @@
 // Document 01, "a lent table of state records (512; parent, relation, making variable)": the table as a slice of records, and the way between it and the
 // same records as numbers, three to a record, which the build writes and the structure reads.
 ghost use mathlib.Core.Path.{_≡_};
-ghost use Prim.Native.Nat.{ℕ, _+_, _*_, _≤_, _<_};
+ghost use Prim.Native.Nat.{_+_, _*_, _≤_, _<_};
 ghost use lib.ListN.{length, getD};
 ghost use Rattle.ground.specs.Buffer.{filled};
 ghost use Rattle.records.specs.Table.{zeroState, rowAt, rowPut, rows, numbersOf};

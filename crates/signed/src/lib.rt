@@ -1,6 +1,6 @@
 // A signed formula's key and the class of a key, read from a rulebook's bytes.
 ghost use mathlib.Core.Path.{_≡_};
-ghost use Prim.Native.Nat.{ℕ, _<_};
+ghost use Prim.Native.Nat.{_<_};
 ghost use lib.ListN.{length};
 ghost use Rattle.book.specs.Rulebook.{tableOf};
 ghost use Rattle.book.specs.Told.{Sound};

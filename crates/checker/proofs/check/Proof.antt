@@ -3,7 +3,7 @@ use mathlib.Core.Path.{sym, ap, _∙_}
 use borrow.Author.Tests.{not-true, not-false}
 use Rattle.book.specs.Told.{told as read-told}
 use Rattle.book.proofs.Accepted.{lawful-told, accepted-told}
-use Rattle.checker.specs.Checked.{lent, told}
+use Rattle.checker.specs.Checked.{lent}
 use Rattle.checker.proofs.Promising.{promised, checked-short, checked-refused, checked-accepted}
 use borrow.Author.Needs.{needs}
 use Rattle.checker.proofs.check.Statement.{statement}
