@@ -71,8 +71,8 @@ fn tell(a: Answer) {
 }
 
 fn evaluate(book: &[u8], b: Build, states: &[u16], words: &[u32], values: &[u8]) {
-    let mut work = [0u8; structure::WORK];
-    match structure::evaluate(
+    let mut work = [0u8; evaluation::WORK];
+    match evaluation::evaluate(
         book,
         states,
         b.states,

@@ -33,7 +33,7 @@ pub fn evaluate_numbers(
     requires { ⌜ 3 * m ≤ length (now numbers) ⌝ }
     ensures { λ r. ⌜ Judged (now (book .entry)) (take (3 * m) (now (numbers .entry))) «states_count» (now (words .entry)) «variables_count» (now (values .entry)) (now (work .entry)) (now (work .exit)) r ⌝ }
 {
-    number(structure::evaluate(
+    number(evaluation::evaluate(
         book,
         &numbers[..3 * m],
         states_count,
