@@ -131,10 +131,6 @@ module _ (bs : List ℕ) (budget : ℕ) (o : Lent) (h : Header) (ns : List Node)
   number-is : judged budget B .number ≡ answer bs budget .number
   number-is = ap (λ (a : Answer). a .number) judged-is
 
-  totals-are : (judged budget B .states ≡ states# B) × (judged budget B .variables ≡ variables# B)
-  unfolding judged
-  totals-are = (refl, refl)
-
   -- what lies in the buffers after a search that finished
   found-is : finishes budget (searched B) ≡ true → found (judged budget B) o′ ≡ shown B
   unfolding judged

@@ -6,17 +6,14 @@ ghost use Rattle.encoding.specs.Limits.{maxStates};
 ghost use Rattle.structure.specs.Evaluation.{told};
 ghost use Rattle.host.specs.Called.{Judged};
 use encoding::Build;
+use ground::lower;
 use structure::Evaluation;
 
 // How many records of a table are read: as many as its size says, or all that it has.
 pub fn readable(room: usize) -> usize
     ensures { λ r. ⌜ r ≡ min maxStates room ⌝ }
 {
-    if room < Build::STATES {
-        room
-    } else {
-        Build::STATES
-    }
+    lower(Build::STATES, room)
 }
 
 // The evaluation over the first m records of the numbers.

@@ -8,7 +8,7 @@ use mathlib.Core.List.{List, [], _∷_, _++_}
 use lib.ListN.{length, getD, set, take, drop, replicate, length-set}
 use lib.Seq.{getD-set-same, getD-set-other, take-nil, drop-nil, take-at, take-append-le, length-take-le}
 use Rattle.ground.specs.Buffer.{filled}
-use Rattle.ground.proofs.Buffers.{Laid, Kept, length-filled, filled-laid, filled-kept, is-filled, kept-set}
+use Rattle.ground.proofs.Buffers.{Laid, Kept, is-filled, kept-set}
 use Rattle.records.specs.declared.State.{State}
 use Rattle.records.specs.Table.{zeroState, rowAt, rowPut, rows, numbersOf}
 
@@ -126,27 +126,6 @@ module _ (old : List ℕ) (ss : List State) where
       kept : (m : ℕ) → m ≤ n → Kept 0 (3 * n) old (laidOut old ss m)
       kept zero l i j = refl
       kept (suc m) l i j = kept-row n m (laidOut old ss m) (getD ss m zeroState) (omega arith) (kept m (omega arith)) i j
-
--- Numbers that hold the records ss and then zeros are published as the records ss and then zero records.
-pub published-rows : (n : ℕ) (ss : List State) (old : List ℕ) (t : List State) → 3 * n ≤ length old → n ≤ length t
-    → filled zeroState n (rows (filled 0 (3 * n) (numbersOf ss) old)) t ≡ filled zeroState n ss t
-published-rows n ss old t h k = is-filled zeroState n ss t _ k (length-filled zeroState n (rows xs) t k) laid (filled-kept zeroState n (rows xs) t)
-  where
-    xs : List ℕ
-    xs = filled 0 (3 * n) (numbersOf ss) old
-
-    at : (i : ℕ) → i < 3 * n → getD xs i 0 ≡ getD (numbersOf ss) i 0
-    at = filled-laid 0 (3 * n) (numbersOf ss) old
-
-    row : (i : ℕ) → i < n → rowAt xs i ≡ rowAt (numbersOf ss) i
-    row i l = rw (at (3 * i) (omega arith), at (3 * i + 1) (omega arith), at (3 * i + 2) (omega arith)) refl
-
-    laid : Laid zeroState n ss (filled zeroState n (rows xs) t)
-    laid i l = filled-laid zeroState n (rows xs) t i l ∙ getD-rows xs i (rw (length-filled 0 (3 * n) (numbersOf ss) old h) (omega arith)) ∙ row i l ∙ rowAt-numbersOf ss i
-
-pub published-filled : (n k : ℕ) (xs old : List ℕ) (t : List State) → length xs ≡ 3 * k → 3 * n ≤ length old → n ≤ length t
-    → filled zeroState n (rows (filled 0 (3 * n) xs old)) t ≡ filled zeroState n (rows xs) t
-published-filled n k xs old t e h l = ap (λ (ys : List ℕ). filled zeroState n (rows (filled 0 (3 * n) ys old)) t) (sym (numbersOf-rows xs k e)) ∙ published-rows n (rows xs) old t h l
 
 -- Where the first n records have been gathered, the first 3 × n numbers are theirs.
 take-numbersOf : (n : ℕ) (ss : List State) → take (3 * n) (numbersOf ss) ≡ numbersOf (take n ss)

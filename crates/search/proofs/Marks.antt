@@ -189,9 +189,6 @@ module _ (a b : List ℕ) (h : Below a b) (l : ℤ) where
   pub still-zero : value b l ≡ 0 → value a l ≡ 0
   still-zero e = ⊎-elim (λ z. z) (λ q. sym q ∙ e) value-below
 
-  pub still-one : value a l ≡ 1 → value b l ≡ 1
-  still-one e = ⊎-elim (λ z. absurd (omega (arith, z, e))) (λ q. q ∙ e) value-below
-
   pub was-one : value b l ≡ 1 → (value a l ≡ 0) ⊎ (value a l ≡ 1)
   was-one e = ⊎-elim (λ z. inl z) (λ q. inr (sym q ∙ e)) value-below
 

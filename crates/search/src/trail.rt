@@ -7,6 +7,7 @@ ghost use Rattle.search.specs.Search.{lowest};
 ghost use Rattle.search.specs.Steps.{Mirrors, Backed};
 use crate::clause::turned;
 use crate::clause::weight;
+use ground::lower;
 
 pub const FIRST: u16 = 32768;
 
@@ -44,13 +45,6 @@ pub fn note(
 {
     put(values, truth, i, v);
     trail[n] = i as u16 + flag;
-}
-
-// The lower of two places.
-fn lower(i: usize, j: usize) -> usize
-    ensures { λ r. ⌜ (r ≤ i) × (r ≤ j) ⌝ }
-{
-    if i < j { i } else { j }
 }
 
 // Undoes what the first n entries of the trail have assigned, back to the latest first branch, and makes that one the second; no, if there is none. Each

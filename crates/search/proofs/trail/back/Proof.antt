@@ -93,7 +93,7 @@ loop-again c =
           ∙ ap (pending a t) (again-k I)
           ∙ g .left;
       used = omega (arith, ap zeros undone, zeros-unset a e, g .used, I .loop-test .taken);
-      none = omega (arith, ap lowest undone, lowest-undone a e (c .lower .result) (omega (arith, c .lower .ensures .0, g .none)) (c .lower .ensures .1));
+      none = omega (arith, ap lowest undone, lowest-undone a e (c .lower .result) (omega (arith, c .lower .ensures, g .none)) (omega (arith, c .lower .ensures)));
       mirrors = P .put .ensures .1;
     }
 
