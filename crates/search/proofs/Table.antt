@@ -4,7 +4,7 @@ use Prim.Native.Nat.{ℕ, zero, suc, _+_, _-_, _≤_, _<_}
 use mathlib.Core.List.{List}
 use native.Mathlib.Decide.{ℕ-discrete}
 use native.Mathlib.Omega.{arith}
-use lib.ListN.{length, getD, set, replicate, length-set, length-replicate}
+use lib.ListN.{length, getD, set, replicate, length-set, length-replicate, getD-replicate}
 use lib.Seq.{getD-set-same, getD-set-other}
 use lib.IntN.{ℤ, pos, negsuc, natAbs}
 use Rattle.search.specs.Search.{turned, value}
@@ -91,43 +91,17 @@ module _ (a w : List ℕ) (M : Mirrors a w) (i v : ℕ) (h : i < length a) where
         is = λ l k. all l (simp length-set at k);
       }
 
--- ---- where nothing is assigned
-pub mirrors-none : (w : List ℕ) → length w ≡ 8192 → getD w 4096 0 ≡ 0 → Mirrors (replicate 0 0) w
-mirrors-none w m e = record { size = m; small = omega arith; is = all }
+-- ---- where nothing is assigned: every literal is open, and the unused place is false
+abbrev pub unset : List ℕ
+unset = set (replicate 8192 1) 4096 0
+
+open-at : (k : ℕ) → k < 8192 → (k ≡ 4096 → ⊥) → _≡_ {A = ℕ} (getD unset k 0) 1
+open-at k low f = getD-set-other {A = ℕ} (replicate 8192 1) 4096 k 0 0 f ∙ getD-replicate {A = ℕ} 8192 k 1 0 low
+
+pub mirrors-none : (v : ℕ) → v < 4096 → Mirrors (replicate v 0) unset
+mirrors-none v h = record { size = simp (length-set, length-replicate); small = simp length-replicate h; is = λ l k. all l (simp length-replicate at k) }
   where
-    all : (l : ℤ) → natAbs l ≤ 0 → getD w (slotOf l) 0 ≡ weight (value (replicate 0 0) l)
-    all (pos zero) k = unfold slotOf value weight in e
-    all (pos (suc n)) k = absurd (omega arith)
-    all (negsuc n) k = absurd (omega arith)
-
--- one variable more
-module _ (w : List ℕ) (v : ℕ) (M : Mirrors (replicate v 0) w) (h : v < 4095) where
-  wider : List ℕ
-  wider = set (set w (4097 + v) 1) (4095 - v) 1
-
-  open-up : (n : ℕ) → n ≤ v → Dec (n ≡ v) → getD wider (slotOf (pos (suc n))) 0 ≡ 1
-  unfolding value weight wider
-  open-up n k (yes e) = ap (λ (j : ℕ). getD wider j 0) (slot-up n ∙ ap (λ (j : ℕ). 4097 + j) e) ∙ at-up w (M .size) v 1 1 h
-  open-up n k (no f) =
-      at-other w (M .size) v 1 1 h (slotOf (pos (suc n))) (λ e. f (omega (arith, e, slot-up n))) (λ e. omega (arith, e, slot-up n))
-      ∙ M .is (pos (suc n)) (simp length-replicate (omega arith))
-      ∙ ap weight (none-at v n)
-
-  open-down : (n : ℕ) → n ≤ v → Dec (n ≡ v) → getD wider (4095 - n) 0 ≡ 1
-  unfolding slotOf value turned weight wider
-  open-down n k (yes e) = ap (λ (j : ℕ). getD wider (4095 - j) 0) e ∙ at-down w (M .size) v 1 1 h
-  open-down n k (no f) =
-      at-other w (M .size) v 1 1 h (4095 - n) (λ e. omega arith) (λ e. f (omega arith))
-      ∙ M .is (negsuc n) (simp length-replicate (omega arith))
-      ∙ ap (λ (x : ℕ). weight (turned x)) (none-at v n)
-
-  open-all : (l : ℤ) → natAbs l ≤ v + 1 → getD wider (slotOf l) 0 ≡ weight (value (replicate (v + 1) 0) l)
-  unfolding slotOf value turned weight wider
-  open-all (pos zero) k = at-other w (M .size) v 1 1 h 4096 (λ e. omega arith) (λ e. omega arith) ∙ M .is (pos 0) (omega arith)
-  open-all (pos (suc n)) k = open-up n (omega arith) (ℕ-discrete n v) ∙ ap weight (sym (none-at (v + 1) n))
-  open-all (negsuc n) k = open-down n (omega arith) (ℕ-discrete n v) ∙ ap (λ (x : ℕ). weight (turned x)) (sym (none-at (v + 1) n))
-
-  pub mirrors-more : Mirrors (replicate (v + 1) 0) (set (set w (4097 + v) 1) (4095 - v) 1)
-  unfolding wider
-  mirrors-more =
-      record { size = written-size w (M .size) v 1 1 h; small = simp length-replicate (omega arith); is = λ l k. open-all l (simp length-replicate at k) }
+    all : (l : ℤ) → natAbs l ≤ v → getD unset (slotOf l) 0 ≡ weight (value (replicate v 0) l)
+    all (pos zero) k = unfold slotOf value weight in getD-set-same {A = ℕ} (replicate 8192 1) 4096 0 0 (simp length-replicate (omega arith))
+    all (pos (suc n)) k = unfold slotOf value weight in (open-at (4096 + suc n) (omega arith) (λ e. omega arith) ∙ ap weight (sym (none-at v n)))
+    all (negsuc n) k = unfold slotOf value turned weight in (open-at (4095 - n) (omega arith) (λ e. omega arith) ∙ ap (λ (x : ℕ). weight (turned x)) (sym (none-at v n)))

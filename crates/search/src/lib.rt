@@ -8,9 +8,9 @@ mod trail;
 ghost use mathlib.Core.Path.{_≡_};
 ghost use mathlib.Core.List.{map};
 ghost use Prim.Native.Nat.{_%_, _≤_, _<_};
-ghost use lib.ListN.{length, getD, replicate};
+ghost use lib.ListN.{length};
 ghost use Rattle.search.specs.Answered.{Ready, Answered};
-ghost use Rattle.search.specs.Steps.{Mirrors, leftBy};
+ghost use Rattle.search.specs.Steps.{leftBy};
 use branch::walk;
 use ground::clear_u8;
 use ground::clear_u16;
@@ -23,7 +23,8 @@ pub enum Outcome {
 }
 
 // Searches `many` clauses within `budget` nodes. What the values hold at entry does not matter; the trail is working space, zero afterwards. Besides the
-// nodes it costs two passes over the values, one over the trail, and making the table of truths, which has 8,192 bytes on the stack.
+// nodes it costs two passes over the values, one over the trail, and the table of truths, 8,192 bytes on the stack: at first every literal is unassigned, and
+// the unused place false.
 pub fn search(
     clauses: &[i16],
     many: usize,
@@ -37,8 +38,8 @@ pub fn search(
     let variables = values.len();
     let places = trail.len();
     clear_u8(values, variables);
-    let mut truth = [0u8; 8192];
-    open_up(&mut truth, variables);
+    let mut truth = [1u8; 8192];
+    truth[4096] = 0;
     let outcome = walk(clauses, many, values, &mut truth, trail, budget);
     clear_u16(trail, places);
     leave(outcome, values);
@@ -54,19 +55,6 @@ fn leave(outcome: Outcome, values: &mut [u8])
         Outcome::Yes(_) => finish(values),
         Outcome::No(_) => clear_u8(values, variables),
         Outcome::Stopped(_) => clear_u8(values, variables),
-    }
-}
-
-// The table of truths where none of so many variables is assigned. One pass over the variables.
-fn open_up(truth: &mut [u8], variables: usize)
-    requires { ⌜ (length (now truth) ≡ 8192) × (getD (now truth) 4096 0 ≡ 0) × (variables < 4096) ⌝ }
-    ensures { λ _. ⌜ Mirrors (replicate variables 0) (now (truth .exit)) ⌝ }
-{
-    let mut i: usize = 0;
-    while i < variables {
-        truth[4097 + i] = 1;
-        truth[4095 - i] = 1;
-        i += 1;
     }
 }
 

@@ -10,6 +10,7 @@ use Rattle.search.specs.Search.{Run, run}
 use Rattle.search.specs.Answered.{Ready}
 use Rattle.search.specs.Steps.{Mirrors, Shown, Ran}
 use Rattle.search.proofs.Marks.{zeros-le}
+use Rattle.search.proofs.Table.{unset, mirrors-none}
 use Rattle.search.proofs.Whole.{run-is}
 use Rattle.ground.proofs.Buffers.{cleared-all}
 use Rattle.search.proofs.Answers.{answer-ran}
@@ -19,11 +20,8 @@ use Rattle.search.proofs.search.Tie as tie
 clear-u8-requires : tie.Need-clear-u8-requires
 clear-u8-requires c κs = search needs
 
--- after the values are cleared and the table made: nothing is assigned
-module _ (O : tie.After-open-up) where
-  abbrev C : tie.After-clear-u8
-  C = O .before .before .before .before
-
+-- after the values are cleared: nothing is assigned
+module _ (C : tie.After-clear-u8) where
   abbrev s : tie.Start
   s = C .before .before .before .before
 
@@ -33,24 +31,21 @@ module _ (O : tie.After-open-up) where
   none : a ≡ replicate (length (s .args .values .now)) 0
   none = C .clear-u8 .ensures ∙ cleared-all 0 (length (s .args .values .now)) (s .args .values .now) refl
 
-  shown : Shown (s .args .clauses .now) (s .args .many) a (O .open-up .last .0)
+  shown : Shown (s .args .clauses .now) (s .args .many) a unset
   shown =
       record {
         ready = subst (λ (v : ℕ). Ready (s .args .clauses .now) (s .args .many) v) (sym (C .clear-u8 .kept .0)) (s .pre .0);
-        mirrors = subst (λ (x : List ℕ). Mirrors x (O .open-up .last .0)) (sym none) (O .open-up .ensures);
+        mirrors = subst (λ (x : List ℕ). Mirrors x unset) (sym none) (mirrors-none (length (s .args .values .now)) (s .pre .0 .small));
       }
 
-slice-aggregate-open-up : tie.Need-slice-aggregate-open-up
-slice-aggregate-open-up c = search needs
-
-open-up-requires : tie.Need-open-up-requires
-open-up-requires c κs = search needs
+array-write-truth : tie.Need-array-write-truth
+array-write-truth c = search needs
 
 slice-aggregate-walk : tie.Need-slice-aggregate-walk
 slice-aggregate-walk c = search needs
 
 walk-requires : tie.Need-walk-requires
-walk-requires c κs = let O = c .before .before .before .before in (shown O, omega (arith, zeros-le (a O), C O .clear-u8 .kept .0, s O .pre .1))
+walk-requires c κs = let C = c .before .before .before .before .before in (shown C, omega (arith, zeros-le (a C), C .clear-u8 .kept .0, s C .pre .1))
 
 clear-u16-requires : tie.Need-clear-u16-requires
 clear-u16-requires c κs = search needs
@@ -60,11 +55,11 @@ leave-requires c κs = search needs
 
 -- after the walk: the run, within the budget
 module _ (W : tie.After-walk) where
-  abbrev O : tie.After-open-up
-  O = W .before .before .before .before .before
+  abbrev C : tie.After-clear-u8
+  C = W .before .before .before .before .before .before
 
   abbrev z : tie.Start
-  z = s O
+  z = s C
 
   abbrev v : ℕ
   v = length (z .args .values .now)
@@ -76,11 +71,11 @@ module _ (W : tie.After-walk) where
   a′ = W .walk .last .1 .1 .0
 
   long : length a′ ≡ v
-  long = W .walk .kept .1 .1 .0 ∙ C O .clear-u8 .kept .0
+  long = W .walk .kept .1 .1 .0 ∙ C .clear-u8 .kept .0
 
   ran : Ran R (z .args .budget) a′ (W .walk .result)
   ran =
-      subst (λ (X : Run). Ran X (z .args .budget) a′ (W .walk .result)) (run-is (triples (z .args .clauses .now)) v (a O) (none O)) (W .walk .ensures)
+      subst (λ (X : Run). Ran X (z .args .budget) a′ (W .walk .result)) (run-is (triples (z .args .clauses .now)) v (a C) (none C)) (W .walk .ensures)
 
 same-length : tie.Need-same-length
 same-length c = search needs
@@ -103,4 +98,4 @@ returns c =
 pub search-spec : {M : Type 1} → statement M
 search-spec =
     tie.close
-    (tie.spec clear-u8-requires slice-aggregate-open-up open-up-requires slice-aggregate-walk walk-requires clear-u16-requires leave-requires same-length same-length-2 returns)
+    (tie.spec clear-u8-requires array-write-truth slice-aggregate-walk walk-requires clear-u16-requires leave-requires same-length same-length-2 returns)
