@@ -1,14 +1,20 @@
 //! Times the check in libhost.a beside the second program, in one run on the same books with the
-//! same buffers, and prints the memory of a check. A ratio is our time over the second program's.
+//! same buffers, and prints the memory of a check; then the search alone, in libsolve.a, over
+//! clauses that no book made. A ratio is our time over the second program's.
 
+mod alone;
 mod books;
+mod clauses;
 mod clock;
 mod memory;
 mod phases;
+mod raw;
+mod searches;
 mod stack;
 mod tables;
 mod timing;
 
+use std::env;
 use std::process::ExitCode;
 use std::time::Instant;
 
@@ -24,24 +30,11 @@ A part under 2% of the call that it is taken from is noise and shown as -. Of se
 time is that of all of them.
 ";
 
-fn main() -> ExitCode {
-    let start = Instant::now();
-    let cases = match books::cases() {
-        Ok(cases) => cases,
-        Err(error) => {
-            eprintln!("{error}");
-            return ExitCode::from(2);
-        }
-    };
+/// The check: its parts by book, and its memory.
+fn check() -> Result<(), String> {
+    let cases = books::cases()?;
     println!("{WHAT}");
-    let measured: Result<Vec<_>, String> = cases.iter().map(phases::measure).collect();
-    let measured = match measured {
-        Ok(measured) => measured,
-        Err(error) => {
-            println!("the programs disagree: {error}");
-            return ExitCode::FAILURE;
-        }
-    };
+    let measured = cases.iter().map(phases::measure).collect::<Result<Vec<_>, _>>()?;
     tables::books(&measured);
     tables::part("reading", &measured, |one| one.reading);
     tables::part("building", &measured, |one| one.building);
@@ -49,6 +42,25 @@ fn main() -> ExitCode {
     tables::nodes(&measured);
     tables::part("whole call", &measured, |one| one.whole);
     memory::print(&cases);
-    println!("\nmeasured in {:.0?}", start.elapsed());
-    ExitCode::SUCCESS
+    Ok(())
+}
+
+fn main() -> ExitCode {
+    let start = Instant::now();
+    let words: Vec<String> = env::args().skip(1).collect();
+    let done = match words.iter().map(String::as_str).collect::<Vec<_>>()[..] {
+        [] => check().and_then(|()| alone::print()),
+        ["search"] => alone::print(),
+        _ => Err("usage: bench [search]".into()),
+    };
+    match done {
+        Ok(()) => {
+            println!("\nmeasured in {:.0?}", start.elapsed());
+            ExitCode::SUCCESS
+        }
+        Err(error) => {
+            eprintln!("{error}");
+            ExitCode::FAILURE
+        }
+    }
 }

@@ -90,7 +90,7 @@ fn time(books: &[Vec<u8>], budget: u32) -> Pair {
             black_box(other.second(black_box(book), budget));
         }
     };
-    in_turn(&mut ours, &mut second)
+    in_turn([&mut ours, &mut second])
 }
 
 /// Measures a case; an error if the programs' numbers differ.
@@ -102,7 +102,8 @@ pub fn measure(case: &Case) -> Result<Measured, String> {
         answer = buffers.second(book, case.budget);
         let number = buffers.ours(book, case.budget);
         if number != u32::from(answer.number) {
-            return Err(format!("{}: {number} beside {}", case.name, answer.number));
+            let (name, beside) = (case.name, answer.number);
+            return Err(format!("the programs disagree on {name}: {number} beside {beside}"));
         }
         entered += u64::from(answer.count);
     }

@@ -7,11 +7,21 @@ use crate::phases::{Measured, Part};
 const SHARE: f64 = 0.02;
 
 /// A time in the unit that suits it.
-fn duration(seconds: f64) -> String {
+pub fn duration(seconds: f64) -> String {
     match seconds {
         s if s >= 1.0 => format!("{s:.2} s"),
         s if s >= 1e-3 => format!("{:.2} ms", s * 1e3),
         s => format!("{:.2} us", s * 1e6),
+    }
+}
+
+/// An answer by its name, a refusal by its number.
+pub fn answer(number: u16) -> String {
+    match number {
+        1 => "yes".into(),
+        2 => "no".into(),
+        3 => "stopped".into(),
+        _ => number.to_string(),
     }
 }
 
@@ -48,11 +58,8 @@ pub fn books(all: &[Measured]) {
             1 => format!("{}/{}/{}", totals.states, totals.variables, totals.clauses),
             _ => "-".into(),
         };
-        let answer = match (one.books, one.answer.number) {
-            (1, 1) => "yes".into(),
-            (1, 2) => "no".into(),
-            (1, 3) => "stopped".into(),
-            (1, number) => number.to_string(),
+        let answer = match one.books {
+            1 => answer(one.answer.number),
             _ => "-".into(),
         };
         println!("{:<24} {:>6} {build:>17} {answer:>9} {:>9}", one.name, one.nodes, one.entered);

@@ -1,10 +1,12 @@
-//! Times of two things that are run in turn, so that both meet the same noise.
+//! Times of things that are run in turn, so that all meet the same noise.
 
 use crate::clock::cpu_seconds;
 
-/// Seconds that a sample takes at least, and that all samples of a pair take about.
+/// Seconds that a sample takes at least, and that all samples of one call take about.
 const SAMPLE: f64 = 0.001;
 const TOTAL: f64 = 0.3;
+/// A sample also takes at least this part of the longest lap.
+const PART: f64 = 0.1;
 /// Samples at least and at most.
 const SAMPLES: (usize, usize) = (5, 41);
 /// Where one lap takes longer than this, the least number of samples is smaller.
@@ -36,18 +38,18 @@ fn seconds(laps: usize, run: &mut dyn FnMut()) -> f64 {
     cpu_seconds() - start
 }
 
-/// Times both in turn, after a lap of each to warm up.
-pub fn in_turn<'a>(ours: &'a mut dyn FnMut(), second: &'a mut dyn FnMut()) -> [Times; 2] {
-    let mut both = [ours, second];
-    let once = both.each_mut().map(|run| seconds(1, *run).min(seconds(1, *run)).max(1e-8));
-    let laps = once.map(|once| (SAMPLE / once).ceil() as usize);
-    let turn = laps[0] as f64 * once[0] + laps[1] as f64 * once[1];
+/// Times some things in turn, after two laps of each to warm up.
+pub fn in_turn<const N: usize>(mut runs: [&mut dyn FnMut(); N]) -> [Times; N] {
+    let once = runs.each_mut().map(|run| seconds(1, *run).min(seconds(1, *run)).max(1e-8));
+    let longest = once.into_iter().fold(0.0, f64::max);
+    let laps = once.map(|once| (SAMPLE.max(PART * longest) / once).ceil() as usize);
+    let turn: f64 = (0..N).map(|which| laps[which] as f64 * once[which]).sum();
     let least = if turn > LONG { FEW } else { SAMPLES.0 };
     let number = ((TOTAL / turn) as usize).clamp(least, SAMPLES.1);
-    let mut samples = [Vec::new(), Vec::new()];
+    let mut samples = [(); N].map(|()| Vec::new());
     for _ in 0..number {
-        for which in 0..2 {
-            samples[which].push(seconds(laps[which], both[which]) / laps[which] as f64);
+        for which in 0..N {
+            samples[which].push(seconds(laps[which], runs[which]) / laps[which] as f64);
         }
     }
     samples.map(Times::of)

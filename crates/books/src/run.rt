@@ -39,7 +39,7 @@ fn once(book: &[u8], budget: u32) -> Answer {
     let mut words = [0u32; Build::VARIABLES];
     let mut clauses = [0i16; 3 * Build::CLAUSES];
     let mut values = [0u8; Build::VARIABLES];
-    let mut work = [0u16; Build::VARIABLES];
+    let mut work = [0u16; checker::WORK];
     let a = checker::check(
         book,
         budget,

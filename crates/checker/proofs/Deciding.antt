@@ -9,13 +9,13 @@ use lib.Seq.{length-take-le}
 use Rattle.clauses.specs.Clause.{triples}
 use Rattle.encoding.specs.declared.counts.Build.{Build}
 use Rattle.search.specs.Search.{Run, sat, unsat, run, nodes, finishes, left}
-use Rattle.search.specs.Answered as search
-use Rattle.search.specs.Answered.{Answered}
-use Rattle.search.specs.declared.Outcome.{Outcome}
-use Rattle.search.specs.declared.Outcome.the-variants as o
+use Rattle.branching.specs.Answered as search
+use Rattle.branching.specs.Answered.{Answered}
+use Rattle.branching.specs.declared.Outcome.{Outcome}
+use Rattle.branching.specs.declared.Outcome.the-variants as o
 use Rattle.meaning.specs.Answers.{Answer, verdict}
 use Rattle.checker.specs.Checked.{ended, told}
-use Rattle.checker.specs.Steps.{run-of, decided, Decided, Searchable}
+use Rattle.checker.specs.Steps.{run-of, decided, space, Decided, Searchable}
 use Rattle.checker.specs.declared.Answer as code
 use Rattle.checker.specs.declared.Answer.the-variants.{Yes, No, Stopped}
 
@@ -39,17 +39,17 @@ told-answer b budget (unsat n) = go (finishes budget (unsat n))
     go false = refl
 
 module _ {b : Build} {budget : ℕ} {cs : List ℤ} {vs wk vs₁ wk₁ : List ℕ} {x : Outcome} (ready : Searchable b cs vs wk)
-    (found : Answered (take (3 * b .clauses) cs) (take (b .variables) vs) (take (b .variables) wk) budget vs₁ wk₁ x) where
+    (found : Answered (take (3 * b .clauses) cs) (take (b .variables) vs) (take (space b) wk) budget vs₁ wk₁ x) where
   long : length (take (b .variables) vs) ≡ b .variables
   long = length-take-le (b .variables) vs (ready .values)
 
   run-is : run (length (take (b .variables) vs)) (triples (take (3 * b .clauses) cs)) ≡ run-of b cs
   run-is = ap (λ (v : ℕ). run v (triples (take (3 * b .clauses) cs))) long
 
-  pub search-decided : (r : code.Answer) → r ≡ withTotals b x → Decided b budget cs vs wk (vs₁ ++ drop (b .variables) vs) (wk₁ ++ drop (b .variables) wk) r
+  pub search-decided : (r : code.Answer) → r ≡ withTotals b x → Decided b budget cs vs wk (vs₁ ++ drop (b .variables) vs) (wk₁ ++ drop (space b) wk) r
   search-decided r e =
       record {
         answer = ap told (e ∙ ap (withTotals b) (found .gives ∙ ap (search.answer budget) run-is)) ∙ told-answer b budget (run-of b cs);
         values = ap (λ (l : List ℕ). l ++ drop (b .variables) vs) (found .leaves ∙ ap (λ (v : ℕ). left budget v (run v (triples (take (3 * b .clauses) cs)))) long);
-        work = ap (λ (l : List ℕ). l ++ drop (b .variables) wk) (found .clears ∙ ap (λ (v : ℕ). replicate v 0) (length-take-le (b .variables) wk (ready .work)));
+        work = ap (λ (l : List ℕ). l ++ drop (space b) wk) (found .clears ∙ ap (λ (k : ℕ). replicate k 0) (length-take-le (space b) wk (ready .work)));
       }

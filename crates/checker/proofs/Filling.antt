@@ -22,8 +22,8 @@ use Rattle.build.specs.declared.Built.{Built}
 use Rattle.build.specs.declared.Built.the-variants.{Whole, Over}
 use Rattle.search.specs.Search.{run, left}
 use Rattle.meaning.specs.Answers.{Answer, refusal, searched, judged}
-use Rattle.checker.specs.Checked.{Lent, lent, enough, holding, leaving, finished, told}
-use Rattle.checker.specs.Steps.{Fit, run-of, decided, Decided, Searchable}
+use Rattle.checker.specs.Checked.{maxWork, Lent, lent, enough, holding, leaving, finished, told}
+use Rattle.checker.specs.Steps.{Fit, run-of, decided, space, Decided, Searchable}
 use Rattle.checker.specs.declared.Answer as code
 use Rattle.checker.specs.declared.Answer.the-variants.{Oversized}
 use Rattle.checker.proofs.Promising.{enough-is, Within, within, finished-over, finished-whole, length-left}
@@ -53,7 +53,7 @@ module _ (bs : List ℕ) (h : Header) (fit : Fit bs h) (o : Lent) (sizes : enoug
   vs₁ = cleared 0 maxVariables (o .values)
 
   abbrev wk₁ : List ℕ
-  wk₁ = cleared 0 maxVariables (o .work)
+  wk₁ = cleared 0 maxWork (o .work)
 
   module _ {st ws : List ℕ} {cs : List ℤ} {x : Built} (f : Filled B (o .states) (o .words) (o .clauses) st ws cs x) where
     -- 15
@@ -101,10 +101,10 @@ module _ (bs : List ℕ) (h : Header) (fit : Fit bs h) (o : Lent) (sizes : enoug
           subst (λ (d : counts.Build). (take (3 * d .clauses) cs ≡ clauseBuffer B) → Searchable d cs vs₁ wk₁) (sym are)
           (λ q.
           record {
-            ready = rw q (record { long = many; range = clauses-range (tableOf bs) below (h .root) (fit .root); small = omega (arith, low .variables) });
+            ready = rw q (record { long = many; range = clauses-range (tableOf bs) below (h .root) (fit .root); small = omega (arith, low .variables); few = omega (arith, low .clauses) });
             clauses = omega (arith, long-clauses, low .clauses, enough-is o sizes .clauses);
             values = omega (arith, length-filled 0 maxVariables [] (o .values) (enough-is o sizes .values), low .variables, enough-is o sizes .values);
-            work = omega (arith, length-filled 0 maxVariables [] (o .work) (enough-is o sizes .work), low .variables, enough-is o sizes .work);
+            work = omega (arith, length-filled 0 maxWork [] (o .work) (enough-is o sizes .work), low .variables, low .clauses, enough-is o sizes .work);
           })
           clauses-are
 
@@ -133,6 +133,9 @@ module _ (bs : List ℕ) (h : Header) (fit : Fit bs h) (o : Lent) (sizes : enoug
           v : b .variables ≡ variables# B
           v = ap (λ (x : counts.Build). x .variables) are
 
+          c : b .clauses ≡ clauses# B
+          c = ap (λ (x : counts.Build). x .clauses) are
+
           values : vs₂ ≡ holding budget B o .values
           values =
               let l : length (left budget (b .variables) (searched B)) ≡ b .variables = length-left budget (b .variables) B v in
@@ -144,8 +147,8 @@ module _ (bs : List ℕ) (h : Header) (fit : Fit bs h) (o : Lent) (sizes : enoug
 
           work : wk₂ ≡ holding budget B o .work
           work =
-              let l : length {A = ℕ} (replicate (b .variables) 0) ≡ b .variables = length-replicate (b .variables) 0 in
+              let l : length {A = ℕ} (replicate (space b) 0) ≡ space b = length-replicate (space b) 0 in
               d .work
-              ∙ ap (λ (k : ℕ). replicate (b .variables) 0 ++ drop k wk₁) (sym l)
-              ∙ over-cleared 0 maxVariables (replicate (b .variables) 0) (o .work) (omega (arith, l, v, low .variables)) (enough-is o sizes .work)
-              ∙ zeros-filled 0 maxVariables (b .variables) (o .work) (enough-is o sizes .work)
+              ∙ ap (λ (k : ℕ). replicate (space b) 0 ++ drop k wk₁) (sym l)
+              ∙ over-cleared 0 maxWork (replicate (space b) 0) (o .work) (omega (arith, l, v, c, low .variables, low .clauses)) (enough-is o sizes .work)
+              ∙ zeros-filled 0 maxWork (space b) (o .work) (enough-is o sizes .work)

@@ -24,7 +24,7 @@ use Rattle.structure.proofs.Recorded.{lies-filled}
 use Rattle.meaning.specs.Answers.{Answer, refusal, answer, answered, answerTo, searched, shown, judged, verdict, C}
 use Rattle.meaning.proofs.Results as results
 use Rattle.meaning.proofs.Judging.{answer-is}
-use Rattle.checker.specs.Checked.{Lent, lent, enough, emptied, holding, Outcome, leaving, finished, onBook, checked, told}
+use Rattle.checker.specs.Checked.{maxWork, Lent, lent, enough, emptied, holding, Outcome, leaving, finished, onBook, checked, told}
 use Rattle.checker.specs.Meant.{found, Meant, Promised}
 use Rattle.checker.specs.declared.Answer as code
 
@@ -34,7 +34,7 @@ pub record Enough (o : Lent) : Type 0 where
   pub words : maxVariables ≤ length (o .words)
   pub clauses : 3 * maxClauses ≤ length (o .clauses)
   pub values : maxVariables ≤ length (o .values)
-  pub work : maxVariables ≤ length (o .work)
+  pub work : maxWork ≤ length (o .work)
 
 pub enough-is : (o : Lent) → enough o ≡ true → Enough o
 unfolding enough
@@ -43,7 +43,7 @@ enough-is o e =
     let ws = leb maxVariables (length (o .words)) in
     let cs = leb (3 * maxClauses) (length (o .clauses)) in
     let vs = leb maxVariables (length (o .values)) in
-    let wk = leb maxVariables (length (o .work)) in
+    let wk = leb maxWork (length (o .work)) in
     let a = and-yes (st && ws && cs && vs) wk (subst T (sym e) tt) in
     let b = and-yes (st && ws && cs) vs (a .0) in
     let c = and-yes (st && ws) cs (b .0) in
@@ -53,7 +53,7 @@ enough-is o e =
       words = leb→le maxVariables (length (o .words)) (d .1);
       clauses = leb→le (3 * maxClauses) (length (o .clauses)) (c .1);
       values = leb→le maxVariables (length (o .values)) (b .1);
-      work = leb→le maxVariables (length (o .work)) (a .1);
+      work = leb→le maxWork (length (o .work)) (a .1);
     }
 
 -- ---- the cases

@@ -12,12 +12,18 @@ use Rattle.encoding.specs.Build.{Build, variables#, built}
 use Rattle.encoding.specs.Limits.{maxStates, maxVariables, maxClauses, oversized, stateBuffer, wordBuffer, clauseBuffer}
 use Rattle.encoding.specs.declared.counts.Build as counts
 use Rattle.search.specs.Search.{left}
+use Rattle.propagation.specs.Ready.{spaceFor}
 use Rattle.meaning.specs.Answers.{Answer, refusal, searched, judged}
 use Rattle.checker.specs.declared.Answer as code
 use Rattle.checker.specs.declared.Answer.the-variants.{Yes, No, Stopped, Lent as LentOut, Short, Ranges, Extent, Node, Oversized}
 
+-- "Working space that the search needs besides is the team's choice; if lent, its size is stated and at most 4 MiB, and it is zero afterwards, but
+-- untouched by 10 to 14": the search's for the most variables and clauses of a build
+abbrev pub maxWork : ℕ
+maxWork = spaceFor maxVariables maxClauses
+
 -- "Buffers: a lent table of state records (parent, relation, making variable); variable words; clause numbers; values", and the search's working
--- space, a number for each variable
+-- space, where it links the clauses of each variable
 pub record Lent : Type 0 where
   pub states : List ℕ
   pub words : List ℕ
@@ -35,7 +41,7 @@ enough o =
     && leb maxVariables (length (o .words))
     && leb (3 * maxClauses) (length (o .clauses))
     && leb maxVariables (length (o .values))
-    && leb maxVariables (length (o .work))
+    && leb maxWork (length (o .work))
 
 -- "15: all 0 up to the stated sizes"
 abbrev pub emptied : Lent → Lent
@@ -45,7 +51,7 @@ emptied o =
       words = cleared 0 maxVariables (o .words);
       clauses = cleared (pos 0) (3 * maxClauses) (o .clauses);
       values = cleared 0 maxVariables (o .values);
-      work = cleared 0 maxVariables (o .work);
+      work = cleared 0 maxWork (o .work);
     }
 
 -- "1 yes: build; values. 2 no: build; values all 0. 3 stopped: build; values all 0": `left` has the values of each; the working space "is zero
@@ -57,7 +63,7 @@ holding budget B o =
       words = filled 0 maxVariables (wordBuffer B) (o .words);
       clauses = filled (pos 0) (3 * maxClauses) (clauseBuffer B) (o .clauses);
       values = filled 0 maxVariables (left budget (variables# B) (searched B)) (o .values);
-      work = cleared 0 maxVariables (o .work);
+      work = cleared 0 maxWork (o .work);
     }
 
 -- an answer and the buffers that it leaves

@@ -11,6 +11,7 @@ ghost use Rattle.checker.specs.Meant.{Promised};
 ghost use Rattle.checker.specs.Steps.{Fit, Searchable, Decided};
 use book::Header;
 use book::Reading;
+use branching::Outcome;
 use build::Built;
 use encoding::Build;
 use ground::both;
@@ -18,7 +19,9 @@ pub use numbers::count;
 pub use numbers::number;
 pub use numbers::place;
 pub use numbers::totals;
-use search::Outcome;
+
+// The numbers of working space that a check is lent: the search's for as many variables and clauses as a build may have.
+pub const WORK: usize = Build::VARIABLES + 1 + 3 * Build::CLAUSES;
 
 pub enum Answer {
     Yes(Build, u32),
@@ -69,7 +72,7 @@ fn enough(states: &[u16], words: &[u32], clauses: &[i16], values: &[u8], work: &
     );
     both(
         both(build, Build::VARIABLES <= values.len()),
-        Build::VARIABLES <= work.len(),
+        WORK <= work.len(),
     )
 }
 
@@ -89,7 +92,7 @@ fn judge(
     ensures { λ r. ⌜ leaving (told r) (lent (now (states .exit)) (now (words .exit)) (now (clauses .exit)) (now (values .exit)) (now (work .exit))) ≡ finished budget (built (tableOf (now (book .entry))) (h .root)) (lent (now (states .entry)) (now (words .entry)) (now (clauses .entry)) (now (values .entry)) (now (work .entry))) ⌝ }
 {
     ground::clear_u8(values, Build::VARIABLES);
-    ground::clear_u16(work, Build::VARIABLES);
+    ground::clear_u16(work, WORK);
     match build::fill(book, h.offset, h.nodes, h.root, states, words, clauses) {
         Built::Over => Answer::Oversized,
         Built::Whole(b) => decide(b, budget, clauses, values, work),
@@ -104,11 +107,12 @@ fn decide(b: Build, budget: u32, clauses: &[i16], values: &mut [u8], work: &mut 
     let many = b.clauses;
     let variables = b.variables;
     let end = 3 * many;
-    match search::search(
+    let space = variables + 1 + end;
+    match branching::search(
         &clauses[..end],
         many,
         &mut values[..variables],
-        &mut work[..variables],
+        &mut work[..space],
         budget,
     ) {
         Outcome::Yes(n) => Answer::Yes(b, n),

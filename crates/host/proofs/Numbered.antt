@@ -8,14 +8,14 @@ use lib.IntN.{pos}
 use lib.ListN.{replicate}
 use Rattle.encoding.specs.Limits.{maxStates, maxVariables, maxClauses}
 use Rattle.meaning.specs.Answers.{Answer}
-use Rattle.checker.specs.Checked.{Lent, lent, enough, told}
+use Rattle.checker.specs.Checked.{maxWork, Lent, lent, enough, told}
 use Rattle.checker.specs.Meant.{Promised}
 use Rattle.checker.specs.declared.Answer as code
 use Rattle.checker.proofs.Promising.{checked-answer}
 use Rattle.host.specs.Called.{Numbered}
 
 abbrev own : Lent
-own = lent (replicate (3 * maxStates) 0) (replicate maxVariables 0) (replicate (3 * maxClauses) (pos 0)) (replicate maxVariables 0) (replicate maxVariables 0)
+own = lent (replicate (3 * maxStates) 0) (replicate maxVariables 0) (replicate (3 * maxClauses) (pos 0)) (replicate maxVariables 0) (replicate maxWork 0)
 
 own-enough : enough own ≡ true
 unfolding enough

@@ -23,7 +23,7 @@ pub extern "C" fn rulebook_check(book: &[u8], budget: u32) -> u32
     let mut words = [0u32; Build::VARIABLES];
     let mut clauses = [0i16; 3 * Build::CLAUSES];
     let mut values = [0u8; Build::VARIABLES];
-    let mut work = [0u16; Build::VARIABLES];
+    let mut work = [0u16; checker::WORK];
     let a = checker::check(
         book,
         budget,

@@ -21,7 +21,7 @@ fn answer(book: &[u8]) {
     let mut words = [0u32; Build::VARIABLES];
     let mut clauses = [0i16; 3 * Build::CLAUSES];
     let mut values = [0u8; Build::VARIABLES];
-    let mut work = [0u16; Build::VARIABLES];
+    let mut work = [0u16; checker::WORK];
     let a = checker::check(
         book,
         BUDGET,

@@ -2,6 +2,7 @@
 use mathlib.Core.Path.{sym, ap}
 use lib.Seq.{length-take-le}
 use native.Mathlib.Omega.{arith}
+use Rattle.checker.specs.Steps.{space}
 use Rattle.checker.proofs.Deciding.{withTotals, search-decided}
 use borrow.Author.Needs.{needs}
 use Rattle.checker.proofs.decide.Statement.{statement}
@@ -9,6 +10,12 @@ use Rattle.checker.proofs.decide.Tie as tie
 
 mul-end : tie.Need-mul-end
 mul-end c = search needs
+
+add-space : tie.Need-add-space
+add-space c = search needs
+
+add-space-2 : tie.Need-add-space-2
+add-space-2 c = search needs
 
 slice-aggregate-search : tie.Need-slice-aggregate-search
 slice-aggregate-search c = search needs
@@ -25,13 +32,13 @@ slice-relend-prefix-search-2 c = search needs
 
 slice-aggregate-search-3 : tie.Need-slice-aggregate-search-3
 slice-aggregate-search-3 c =
-    let s = c .before .before .before .before .before in sym (length-take-le (s .args .b .variables) (s .args .work .now) (s .pre .work))
+    let s = c .before .before .before .before .before in sym (length-take-le (space (s .args .b)) (s .args .work .now) (s .pre .work))
 
 search-requires : tie.Need-search-requires
 search-requires c κs =
     let s = c .before .before .before .before .before in
     let v = length-take-le (s .args .b .variables) (s .args .values .now) (s .pre .values) in
-    let w = length-take-le (s .args .b .variables) (s .args .work .now) (s .pre .work) in
+    let w = length-take-le (space (s .args .b)) (s .args .work .now) (s .pre .work) in
     (rw v (s .pre .ready), omega (arith, v, w))
 
 enum-known-n : tie.Need-enum-known-n
@@ -78,6 +85,8 @@ decide-spec =
     tie.close
     (tie.spec
     mul-end
+    add-space
+    add-space-2
     slice-aggregate-search
     slice-relend-prefix-search
     slice-aggregate-search-2

@@ -1,0 +1,5 @@
+pub mod Ready
+pub mod Links
+pub mod Judging
+pub mod Trail
+pub mod Propagation
