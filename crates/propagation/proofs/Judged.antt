@@ -2,7 +2,7 @@
 use mathlib.Core.Path.{_≡_, refl, sym, ap, _∙_, subst}
 use mathlib.Core.Bool.{Bool, true, false, _||_, cond}
 use mathlib.Core.List.{List, [], _∷_}
-use Prim.Native.Nat.{ℕ, zero, suc, _+_}
+use Prim.Native.Nat.{ℕ, zero, suc, _+_, _≤_}
 use native.Mathlib.Omega.{arith}
 use borrow.Author.Tests.{ne-eqb, le-leb, lt-ltb}
 use lib.Dec.{eqb, leb}
@@ -12,10 +12,11 @@ use Rattle.clauses.specs.Clause.{Clause, three}
 use Rattle.clauses.proofs.Numbers.{three-is}
 use Rattle.search.specs.Search.{value, sameLiteral, met, unassigned, allSame, Says, quiet, forced, says}
 use Rattle.ground.proofs.Tests.{true-false}
-use Rattle.propagation.specs.Judging.{weight, counted, judged, told, Tells}
+use Rattle.propagation.specs.Judging.{weight, counted, judged, told, Tells, weightsOf}
 use Rattle.propagation.specs.declared.clause.Told.{Told}
 use Rattle.propagation.specs.declared.clause.Told.the-variants.{Quiet, Fails, Forces}
 use Rattle.search.proofs.Clauses.{same-is}
+use Rattle.propagation.proofs.Table.{weight-le}
 
 -- by tests alone: which are true, then which are unassigned, then which are the same
 code : Bool → Bool → Bool → Bool → Bool → Bool → Bool → Bool → Bool → Told
@@ -149,6 +150,10 @@ three-says a x y z =
           third = λ e. ap (value a) (same-is y z e);
           all = λ e. ap (λ (l : ℤ). sameLiteral l z) (same-is x y e);
         }
+
+-- the weights of three literals are a small sum
+pub weights-light : (a : List ℕ) (c : Clause) (r : List ℕ) → r ≡ weightsOf a c → getD r 0 0 + getD r 1 0 + getD r 2 0 ≤ 12
+weights-light a c r e = rw e (omega (arith, weight-le (value a (getD c 0 (pos 0))), weight-le (value a (getD c 1 (pos 0))), weight-le (value a (getD c 2 (pos 0)))))
 
 -- the same of any clause of three
 pub judged-says : (a : List ℕ) (c : Clause) → length c ≡ 3 → Tells c (judgedOf a (getD c 0 (pos 0)) (getD c 1 (pos 0)) (getD c 2 (pos 0))) (says a c)

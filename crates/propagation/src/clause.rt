@@ -1,4 +1,4 @@
-// What a clause says, read off the table of truths: whether it is met, open, fails or forces a literal.
+// What a clause says, read off the table of truths: nothing, that it fails, or that a literal is forced; and whether it is met.
 // Signed numbers are taken apart here; everything else in this crate speaks of places, slots and marks.
 ghost use mathlib.Core.Path.{_≡_};
 ghost use Prim.Native.Nat.{_+_, _*_, _≤_, _<_};
