@@ -10,9 +10,10 @@ use second::search::Found;
 const WHAT: &str = "
 The search alone: rulebook_search of libsolve.a beside the second program's search and the base's,
 for which the second program's scanning one stands: it begins at the first clause again after each
-forcing. Each time is that of whole calls over the same clauses, the least of samples taken in turn;
-a time ratio is our time over the second program's. They agree on answer, values and count. All of a
-line have the same budget unless it says otherwise: the first nodes of a search are its cheapest.
+forcing, where the others keep the number of unmet clauses. Each time is that of whole calls over
+the same clauses, the least of samples taken in turn; a time ratio is our time over the second
+program's. They agree on answer, values and count. All of a line have the same budget unless it says
+otherwise: the first nodes of a search are its cheapest.
 ";
 
 /// Random clauses, and the nodes that all searches enter, and those that only the faster two do.

@@ -17,7 +17,7 @@ mod foreign {
 
 /// Numbers of working space that a search of so many variables and clauses is lent.
 pub fn work(variables: usize, clauses: usize) -> usize {
-    variables + 1 + 3 * clauses
+    2 * variables + 1 + 3 * clauses
 }
 
 /// `rulebook_search`, with as many variables as values: 1 yes, 2 no, 3 stopped, 10 if something

@@ -1,18 +1,20 @@
 -- Document 01, "The search", node by node: what is left to do, one step of it, and a run within a budget. Nothing outside the crate cites this.
 -- Assumes nothing.
 use mathlib.Core.Path.{_≡_}
+use mathlib.Core.Bool.{cond}
 use mathlib.Core.List.{List, [], _∷_, map}
-use Prim.Native.Nat.{ℕ, suc, _+_, _%_, _≤_, _<_}
+use Prim.Native.Nat.{ℕ, suc, _+_, _-_, _%_, _≤_, _<_}
+use lib.Dec.{eqb}
 use lib.ListN.{length, replicate}
 use lib.IntN.{ℤ}
 use Rattle.clauses.specs.Clause.{Clause, triples}
-use Rattle.search.specs.Search.{zeros, lowest, Run, sat, unsat, plus, node, nodes}
+use Rattle.search.specs.Search.{zeros, Run, sat, unsat, plus, node, nodes}
 use Rattle.propagation.specs.declared.trail.Step.{Step}
 use Rattle.propagation.specs.declared.trail.Step.the-variants.{Yes as StepYes, No as StepNo, Next}
 use Rattle.branching.specs.declared.Outcome.{Outcome}
 use Rattle.branching.specs.declared.Outcome.the-variants.{Yes, No, Stopped}
-use Rattle.propagation.specs.Judging.{Passed}
-use Rattle.propagation.specs.Trail.{Branch, second, pending}
+use Rattle.propagation.specs.Unmet.{Counts}
+use Rattle.propagation.specs.Trail.{noted, Branch, second, pending, AllSaved}
 use Rattle.propagation.specs.Propagation.{Started}
 
 -- a node, with depth enough
@@ -32,18 +34,22 @@ finished cs R (d ∷ P) = onFail R (λ n. plus n (finished cs (nodeOf cs (second
 abbrev pub whole : List ℤ → List ℕ → List ℕ → ℕ → Run
 whole cl a t n = finished (triples cl) (nodeOf (triples cl) a) (pending a t n)
 
--- one node more: it is the last, or the rest is left to do, no variable below `from` is unassigned, and the clauses from `span` on are met
-pub record Further (cl : List ℤ) (n : ℕ) (a t a′ t′ : List ℕ) (k from span : ℕ) : Type 0 where
+-- the place above the branch that the last of n entries notes; 0 at the root
+unfoldable pub above : List ℕ → ℕ → ℕ
+above t n = cond (eqb n 0) 0 (noted t (n - 1) + 1)
+
+-- one node more: it is the last, or the rest is left to do; u is then the number of unmet clauses, and for each pending branch it is saved in s
+pub record Further (cl : List ℤ) (n : ℕ) (a t a′ t′ s : List ℕ) (k u : ℕ) : Type 0 where
   pub is : whole cl a t n ≡ plus 1 (whole cl a′ t′ k)
   pub room : k + zeros a′ ≤ n + zeros a
-  pub low : from ≤ lowest a′
-  pub passed : Passed cl a′ span
   pub started : Started cl a′ t′ k
+  pub saved : AllSaved cl s (pending a′ t′ k)
+  pub counts : Counts cl a′ u
 
-abbrev pub Stepped : List ℤ → ℕ → List ℕ → List ℕ → List ℕ → List ℕ → Step → Type 0
-Stepped cl n a t a′ t′ StepYes = whole cl a t n ≡ sat a′ 1
-Stepped cl n a t a′ t′ StepNo = whole cl a t n ≡ unsat 1
-Stepped cl n a t a′ t′ (Next k from span) = Further cl n a t a′ t′ k from span
+abbrev pub Stepped : List ℤ → ℕ → List ℕ → List ℕ → List ℕ → List ℕ → List ℕ → Step → Type 0
+Stepped cl n a t a′ t′ s StepYes = whole cl a t n ≡ sat a′ 1
+Stepped cl n a t a′ t′ s StepNo = whole cl a t n ≡ unsat 1
+Stepped cl n a t a′ t′ s (Next k u) = Further cl n a t a′ t′ s k u
 
 -- a run R within a budget: the marks at a yes, and the count
 abbrev pub Ran : Run → ℕ → List ℕ → Outcome → Type 0

@@ -22,8 +22,9 @@ pub enum Outcome {
 }
 
 // Searches `many` clauses within `budget` nodes. What the values and the working space hold at entry does not matter; the working space, in which the clauses
-// of each variable are linked, is zero afterwards. Besides the nodes it costs two passes over the values, two over the working space and one over the clause
-// numbers; and on the stack the table of truths, 8,192 bytes, in which at first every literal is unassigned and the unused place false, and the trail, 8,190.
+// of each literal are linked, is zero afterwards. Besides the nodes it costs two passes over the values, two over the working space and one over the clause
+// numbers; and on the stack the table of truths, 8,192 bytes, in which at first every literal is unassigned and the unused place false, and the trail with the
+// number of unmet clauses at each first branch, 8,190 bytes each.
 pub fn search(
     clauses: &[i16],
     many: usize,
@@ -40,8 +41,18 @@ pub fn search(
     let mut truth = [1u8; 8192];
     truth[4096] = 0;
     let mut trail = [0u16; 4095];
+    let mut saved = [0u16; 4095];
     link(clauses, variables, work);
-    let outcome = walk(clauses, many, work, values, &mut truth, &mut trail, budget);
+    let outcome = walk(
+        clauses,
+        many,
+        work,
+        values,
+        &mut truth,
+        &mut trail,
+        &mut saved,
+        budget,
+    );
     clear_u16(work, places);
     leave(outcome, values);
     outcome

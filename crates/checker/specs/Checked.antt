@@ -23,7 +23,7 @@ abbrev pub maxWork : ℕ
 maxWork = spaceFor maxVariables maxClauses
 
 -- "Buffers: a lent table of state records (parent, relation, making variable); variable words; clause numbers; values", and the search's working
--- space, where it links the clauses of each variable
+-- space, where it links the clauses of each literal
 pub record Lent : Type 0 where
   pub states : List ℕ
   pub words : List ℕ

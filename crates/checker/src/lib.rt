@@ -21,7 +21,7 @@ pub use numbers::place;
 pub use numbers::totals;
 
 // The numbers of working space that a check is lent: the search's for as many variables and clauses as a build may have.
-pub const WORK: usize = Build::VARIABLES + 1 + 3 * Build::CLAUSES;
+pub const WORK: usize = 2 * Build::VARIABLES + 1 + 3 * Build::CLAUSES;
 
 pub enum Answer {
     Yes(Build, u32),
@@ -107,7 +107,7 @@ fn decide(b: Build, budget: u32, clauses: &[i16], values: &mut [u8], work: &mut 
     let many = b.clauses;
     let variables = b.variables;
     let end = 3 * many;
-    let space = variables + 1 + end;
+    let space = 2 * variables + 1 + end;
     match branching::search(
         &clauses[..end],
         many,

@@ -70,6 +70,11 @@ unfolding mark
 mark-up (pos n) e = refl
 mark-up (negsuc n) e = true-false e
 
+pub mark-is : (y : ℤ) → (0 < mark y) × (mark y < 3)
+unfolding mark
+mark-is (pos n) = (omega arith, omega arith)
+mark-is (negsuc n) = (omega arith, omega arith)
+
 -- ---- the slot of a literal
 pub slot-is : (y : ℤ) → natAbs y < 4096 → y +ℤ pos 4096 ≡ pos (slotOf y)
 unfolding slotOf
@@ -77,7 +82,7 @@ slot-is (pos n) h = ap pos (omega arith)
 slot-is (negsuc n) h = rw (le-ltb 4096 (suc n) (omega arith)) (ap pos (omega arith))
 
 -- ---- two literals are the same where their bits are
-same-no : (y z : ℤ) → (y ≡ z → ⊥) → sameLiteral y z ≡ false
+pub same-no : (y z : ℤ) → (y ≡ z → ⊥) → sameLiteral y z ≡ false
 same-no y z f = by (sameLiteral y z) refl
   where
     by : (b : Bool) → sameLiteral y z ≡ b → sameLiteral y z ≡ false

@@ -14,7 +14,6 @@ use Rattle.clauses.proofs.Signs.{read, small, again}
 use Rattle.propagation.specs.Ready.{Ready}
 use Rattle.search.specs.Models.{ClausesIn}
 use Rattle.propagation.specs.Judging.{Shown, clauseAt}
-use Rattle.propagation.specs.Propagation.{Held}
 
 pub triples-in : (v : ℕ) (cl : List ℤ) → ((k : ℕ) → natAbs (getD cl k (pos 0)) ≤ v) → ClausesIn v (triples cl)
 unfolding triples
@@ -41,7 +40,7 @@ abbrev pub at : List ℤ → ℕ → ℤ
 at cl k = getD cl k (pos 0)
 
 -- ---- the clauses by their numbers
-clause-next : (x y z : ℤ) (r : List ℤ) (j : ℕ) → clauseAt (x ∷ y ∷ z ∷ r) (suc j) ≡ clauseAt r j
+pub clause-next : (x y z : ℤ) (r : List ℤ) (j : ℕ) → clauseAt (x ∷ y ∷ z ∷ r) (suc j) ≡ clauseAt r j
 clause-next x y z r j = rw (further (3 * suc j) (3 * j) (omega arith), further (3 * suc j + 1) (3 * j + 1) (omega arith), further (3 * suc j + 2) (3 * j + 2) (omega arith))
   where
     further : (k m : ℕ) → k ≡ suc (suc (suc m)) → at (x ∷ y ∷ z ∷ r) k ≡ at r m
@@ -67,15 +66,12 @@ in-clauses (x ∷ y ∷ z ∷ r) c m =
       | inr n ↦ let s = in-clauses r c n in (suc (s .0), omega (arith, s .1), s .2 ∙ sym (clause-next x y z r (s .0)))
     ]
 
--- a clause that holds a variable has it at one of its places
-pub held-at : (cl : List ℤ) (j x : ℕ) → Held (clauseAt cl j) x → (k : ℕ) × (k < 3) × (natAbs (at cl (3 * j + k)) ≡ suc x)
-held-at cl j x h =
-    elim (List·Memᴰ·cases-cons (h .1)) [
-      | inl e ↦ (0, omega arith, ap natAbs (ap (at cl) (add-zero (3 * j)) ∙ sym e) ∙ h .2)
-      | inr n ↦ elim (List·Memᴰ·cases-cons n) [
-        | inl e ↦ (1, omega arith, ap natAbs (sym e) ∙ h .2)
-        | inr o ↦ (2, omega arith, ap natAbs (sym (List·Memᴰ·eq-of-singleton o)) ∙ h .2)
-      ]
+-- a literal of a clause stands at one of its places
+pub member-at : (cl : List ℤ) (j : ℕ) (l : ℤ) → List·Memᴰ l (clauseAt cl j) → (k : ℕ) × (k < 3) × (at cl (3 * j + k) ≡ l)
+member-at cl j l m =
+    elim (List·Memᴰ·cases-cons m) [
+      | inl e ↦ (0, omega arith, ap (at cl) (add-zero (3 * j)) ∙ sym e)
+      | inr n ↦ elim (List·Memᴰ·cases-cons n) [ inl e ↦ (1, omega arith, sym e) | inr o ↦ (2, omega arith, sym (List·Memᴰ·eq-of-singleton o)) ]
     ]
 
 -- a literal of the i-th clause, and where it stands

@@ -1,7 +1,7 @@
 -- Document 01, "The search", as the code reads clauses: off a table of truths, by weights. What the functions inside the crate promise one another, in the
 -- words of `Search`; nothing outside the crate cites this. Assumes nothing.
 use mathlib.Core.Path.{_≡_}
-use mathlib.Core.Bool.{Bool, true, false, cond}
+use mathlib.Core.Bool.{Bool, cond}
 use mathlib.Core.List.{List, [], _∷_}
 use Prim.Native.Nat.{ℕ, zero, suc, _+_, _-_, _*_, _≤_, _<_}
 use lib.ListN.{length, getD}
@@ -40,12 +40,9 @@ pub record Shown (cl : List ℤ) (many : ℕ) (a w : List ℕ) : Type 0 where
 abbrev pub Posed : List ℤ → List ℕ → List ℕ → Type 0
 Posed cl a w = (many : ℕ) × Shown cl many a w
 
--- w is the table of some marks, for so many clauses or for some number of them
+-- w is the table of some marks
 abbrev pub Table : List ℤ → ℕ → List ℕ → Type 0
 Table cl many w = (a : List ℕ) × Shown cl many a w
-
-abbrev pub Readable : List ℤ → List ℕ → Type 0
-Readable cl w = (a : List ℕ) × Posed cl a w
 
 -- ---- a clause
 -- the i-th, counting from 0
@@ -91,17 +88,3 @@ Judges c w r = (a : List ℕ) → Shown c 1 a w → Tells c r (says a c)
 
 abbrev pub JudgesMet : Clause → List ℕ → Bool → Type 0
 JudgesMet c w r = (a : List ℕ) → Shown c 1 a w → r ≡ met a c
-
--- ---- which clauses are met
--- from the k-th on all are
-pub record Passed (cl : List ℤ) (a : List ℕ) (k : ℕ) : Type 0 where
-  pub low : 3 * k ≤ length cl
-  pub are : (j : ℕ) → k ≤ j → 3 * j + 3 ≤ length cl → met a (clauseAt cl j) ≡ true
-
--- all are from the r-th on, and the one before it is not; under whatever marks the table shows for which all from the k-th on are
-pub record Ends (cl : List ℤ) (a : List ℕ) (r : ℕ) : Type 0 where
-  pub passed : Passed cl a r
-  pub last : 0 < r → met a (clauseAt cl (r - 1)) ≡ false
-
-abbrev pub Unmet : List ℤ → List ℕ → ℕ → ℕ → Type 0
-Unmet cl w k r = (a : List ℕ) → Posed cl a w → Passed cl a k → Ends cl a r

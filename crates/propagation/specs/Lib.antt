@@ -1,5 +1,6 @@
 pub mod Ready
 pub mod Links
+pub mod Unmet
 pub mod Judging
 pub mod Trail
 pub mod Propagation

@@ -10,8 +10,7 @@ use lib.IntN.{ℤ, natAbs}
 use Rattle.clauses.specs.Clause.{Clause, triples}
 use Rattle.search.specs.Search.{says, scan, quiet, fails, Settles, clash, calm, settle, zeros, lowest}
 use Rattle.search.specs.Models.{Forcing}
-use Rattle.propagation.specs.Judging.{Passed}
-use Rattle.propagation.specs.Trail.{noted, Branch, pending, latestBranch}
+use Rattle.propagation.specs.Trail.{plain, noted, Marked, Branch, pending, latestBranch}
 
 -- the clause holds the variable at a place
 abbrev pub Held : Clause → ℕ → Type 0
@@ -30,7 +29,7 @@ abbrev pub Failing : List ℤ → List ℕ → Type 0
 Failing cl a = (c : Clause) × List·Memᴰ c (triples cl) × (says a c ≡ fails)
 
 -- from a with n entries on the trail t literals were forced, in some order, and noted: the same branches are pending, nothing that was assigned is
--- unassigned, and a clause that said nothing still says nothing or waits
+-- unassigned, what was noted is so, and a clause that said nothing still says nothing or waits
 pub record Moved (cl : List ℤ) (n : ℕ) (a t : List ℕ) (top : ℕ) (a′ t′ : List ℕ) : Type 0 where
   pub by : Forcing (triples cl) a a′
   pub long : length a′ ≡ length a
@@ -40,7 +39,7 @@ pub record Moved (cl : List ℤ) (n : ℕ) (a t : List ℕ) (top : ℕ) (a′ t�
   pub back : pending a′ t′ top ≡ pending a t n
   pub low : lowest a ≤ lowest a′
   pub front : take n t′ ≡ take n t
-  pub inside : (k : ℕ) → n ≤ k → k < top → noted t′ k < length a′
+  pub marked : (k : ℕ) → n ≤ k → k < top → Marked a′ (plain t′ k)
   pub rest : (c : Clause) → says a c ≡ quiet → Calmed c a′ t′ n top
 
 -- these clauses P were heeded on the way, up to one that fails
@@ -56,9 +55,9 @@ Every cl c = List·Memᴰ c (triples cl)
 abbrev pub Holding : List ℤ → ℕ → Clause → Type 0
 Holding cl x c = Every cl c × Held c x
 
--- the entries from a head up to n are a queue: every clause that could fail or force waits in it
+-- the entries from a head up to n are a queue: what they note is so, and every clause that could fail or force waits in it
 pub record Queue (cl : List ℤ) (a t : List ℕ) (head n : ℕ) : Type 0 where
-  pub inside : (k : ℕ) → head ≤ k → k < n → noted t k < length a
+  pub marked : (k : ℕ) → head ≤ k → k < n → Marked a (plain t k)
   pub calmed : (c : Clause) → Every cl c → Calmed c a t head n
 
 -- all that waits was visited
@@ -71,20 +70,19 @@ unfoldable pub settledBy : Bool → List ℕ → Settles
 settledBy true a = calm a
 settledBy false a = clash
 
--- from a with n entries on the trail t: what `settle` gives, the same branches pending, nothing unassigned that was assigned, and all met that was met
+-- from a with n entries on the trail t: what `settle` gives, the same branches pending, and nothing unassigned that was assigned
 pub record Settling (cl : List ℤ) (n : ℕ) (a t a′ t′ : List ℕ) (calmly : Bool) (top : ℕ) : Type 0 where
   pub is : settledBy calmly a′ ≡ settle (triples cl) a
-  pub stays : (k : ℕ) → Passed cl a k → Passed cl a′ k
   pub above : n ≤ top
   pub used : top + zeros a′ ≡ n + zeros a
   pub back : pending a′ t′ top ≡ pending a t n
   pub low : lowest a ≤ lowest a′
 
--- where a branch is made all clauses are quiet
+-- a branch is made on the lowest unassigned variable, and where it is made all clauses are quiet
 abbrev pub Rested : List ℤ → Branch → Type 0
-Rested cl d = (d .at < length (d .marks)) × (scan (d .marks) (triples cl) ≡ quiet)
+Rested cl d = (d .at ≡ lowest (d .marks)) × (scan (d .marks) (triples cl) ≡ quiet)
 
 -- a node is entered at the root, or with its branch noted last
 pub record Started (cl : List ℤ) (a t : List ℕ) (n : ℕ) : Type 0 where
-  pub made : (n ≡ 0) ⊎ Rested cl (latestBranch a t n)
+  pub made : (n ≡ 0) ⊎ (Rested cl (latestBranch a t n) × Marked a (plain t (n - 1)))
   pub left : (d : Branch) → List·Memᴰ d (pending a t n) → Rested cl d

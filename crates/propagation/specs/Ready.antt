@@ -13,6 +13,6 @@ pub record Ready (clauses : List ℤ) (many v : ℕ) : Type 0 where
   pub small : v < 4096
   pub few : 3 * many < 65536
 
--- the working space: a place for each variable, one for the unused places of clauses, and one for each clause number
+-- the working space: a place for each literal, one for the unused places of clauses, and one for each clause number
 abbrev pub spaceFor : ℕ → ℕ → ℕ
-spaceFor v many = v + 1 + 3 * many
+spaceFor v many = 2 * v + 1 + 3 * many

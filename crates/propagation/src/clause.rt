@@ -2,8 +2,8 @@
 // Signed numbers are taken apart here; everything else in this crate speaks of places, slots and marks.
 ghost use mathlib.Core.Path.{_≡_};
 ghost use Prim.Native.Nat.{_+_, _*_, _≤_, _<_};
-ghost use lib.ListN.{length};
-ghost use lib.IntN.{natAbs};
+ghost use lib.ListN.{length, getD};
+ghost use lib.IntN.{pos, natAbs};
 ghost use Rattle.search.specs.Search as def;
 ghost use Rattle.propagation.specs.Judging.{Weighs, Judges, JudgesMet, Table};
 ghost use Rattle.propagation.specs.Judging as judging;
@@ -22,6 +22,20 @@ pub fn clause_at(clauses: &[i16], i: usize) -> [i16; 3]
 {
     let p = 3 * i;
     [clauses[p], clauses[p + 1], clauses[p + 2]]
+}
+
+// The literal at place k of a clause. The clause lies in registers: looking it up again in memory would be on the way of every forcing.
+pub fn literal_at(c: [i16; 3], k: usize) -> i16
+    requires { ⌜ (k < 3) × (natAbs (getD c k (pos 0)) < 4096) ⌝ }
+    ensures { λ r. ⌜ r ≡ getD c k (pos 0) ⌝ }
+{
+    if k == 0 {
+        c[0]
+    } else if k == 1 {
+        c[1]
+    } else {
+        c[2]
+    }
 }
 
 // Where a literal's variable stands.

@@ -1,35 +1,50 @@
-// The clauses of each variable: its places among the clause numbers, linked from the latest down.
+// The clauses of each literal: its places among the clause numbers, linked from the latest down. In a clause that has a literal more than once only the first
+// of its places is linked, so that no clause is met twice on the way.
 ghost use mathlib.Core.Path.{_≡_};
 ghost use Prim.Native.Nat.{_<_};
 ghost use lib.ListN.{length};
 ghost use Rattle.propagation.specs.Links as def;
 ghost use Rattle.propagation.specs.Links.{Linkable, Linked};
-use crate::clause::number;
+use crate::clause::mark;
+use crate::clause::place;
 use ground::clear_u16;
 
-// Links the places of each variable. One pass over the variables, and one over the clause numbers.
+// Where the latest place stands of the literal that the mark m makes true, of the variable at i.
+pub fn head(i: usize, m: u8) -> usize
+    requires { ⌜ i < 32768 ⌝ }
+    ensures { λ r. ⌜ r ≡ def.headOf (def.made i m) ⌝ }
+{
+    if m == 1 { 2 * i + 2 } else { 2 * i + 1 }
+}
+
+// Where a literal's latest place stands, 0 for an unused place.
+fn head_of(l: i16) -> usize
+    ensures { λ r. ⌜ r ≡ def.headOf l ⌝ }
+{
+    if l == 0 { 0 } else { head(place(l), mark(l)) }
+}
+
+// Of the latest place and the next one with the same literal, the one that counts.
+fn joined(last: u16, p: u16) -> u16
+    ensures { λ r. ⌜ r ≡ def.joined last p ⌝ }
+{
+    let earlier = last as usize + 2;
+    let later = p as usize + 2;
+    if earlier / 3 == later / 3 { last } else { p }
+}
+
+// Links the places of each literal. One pass over the literals, and one over the clause numbers.
 pub fn link(clauses: &[i16], variables: usize, links: &mut [u16])
     requires { ⌜ Linkable (now clauses) variables (now links) ⌝ }
     ensures { λ _. ⌜ Linked (now (clauses .entry)) variables (length (now (clauses .entry))) (now (links .exit)) ⌝ }
 {
-    clear_u16(links, variables + 1);
+    clear_u16(links, 2 * variables + 1);
     let mut i: usize = 0;
     while i < clauses.len() {
-        let x = number(clauses[i]);
-        links[variables + 1 + i] = links[x];
+        let x = head_of(clauses[i]);
+        let last = links[x];
+        links[2 * variables + 1 + i] = last;
         i += 1;
-        links[x] = i as u16;
+        links[x] = joined(last, i as u16);
     }
-}
-
-// Where all clauses from `span` on were met, and the variable at x gets another mark: from where on they still are, beyond its last clause.
-pub fn reopened(links: &[u16], variables: usize, x: usize, span: usize) -> usize
-    requires { ⌜ variables < length (now links) ⌝ }
-    ensures { λ r. ⌜ r ≡ def.reopened (now (links .entry)) variables x span ⌝ }
-{
-    if variables <= x {
-        return span;
-    }
-    let end = (links[x + 1] as usize + 2) / 3;
-    if span < end { end } else { span }
 }

@@ -45,7 +45,7 @@ fn lengths_fit(numbers: usize, v: usize, room: usize) -> bool
     if NUMBERS < numbers {
         return false;
     }
-    both(numbers % 3 == 0, v + 1 + 3 * (numbers / 3) <= room)
+    both(numbers % 3 == 0, 2 * v + 1 + 3 * (numbers / 3) <= room)
 }
 
 // Whether every number is of one of v variables, or 0. One pass.

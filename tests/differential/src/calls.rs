@@ -10,9 +10,9 @@ pub const VARIABLES: usize = 4095;
 pub const CLAUSES: usize = 5000;
 /// Clause numbers.
 pub const CLAUSE_NUMBERS: usize = 3 * CLAUSES;
-/// Numbers of working space that the search is lent: one for each variable, one for the unused
+/// Numbers of working space that the search is lent: one for each literal, one for the unused
 /// places of clauses, one for each clause number.
-pub const WORK: usize = VARIABLES + 1 + CLAUSE_NUMBERS;
+pub const WORK: usize = 2 * VARIABLES + 1 + CLAUSE_NUMBERS;
 /// The answer's fields: number, place, states, variables, clauses, count.
 pub const FIELDS: usize = 6;
 /// Bytes of working space that an evaluation is lent: for each state a byte for its life, for

@@ -1,6 +1,7 @@
-//! 01, "The search", with 02's order 6: every clause is visited once at the root, and from then on
-//! only those that hold a variable just assigned. The trail is their queue as well; it stands in
-//! for recursion. Whether all clauses are met is asked from a cursor that only undoing raises.
+//! 01, "The search", with 02's orders 6 and 8: every clause is visited once at the root, and from
+//! then on only those that hold a literal just made false. The trail is their queue as well; it
+//! stands in for recursion. All clauses are met when the number of unmet ones is 0; it is kept
+//! beside the assignment, true after every forcing, branch and return.
 
 use crate::build::{CLAUSES, VARIABLES};
 
@@ -19,8 +20,11 @@ pub struct Found {
     pub count: u32,
 }
 
+type Clause = [i16; 3];
+
 /// A literal's truth. Those of a clause's distinct literals are added up: 0 fails, 1 forces its
-/// unassigned literal, from `TRUE` on it is met, and between them it is open.
+/// unassigned literal, from `TRUE` on it is met, and between them it is open. Met is told with
+/// repeated ones in the sum as well.
 const FALSE: u8 = 0;
 const UNASSIGNED: u8 = 1;
 const TRUE: u8 = 4;
@@ -35,13 +39,15 @@ pub struct Space {
     /// The literals made true, in order.
     trail: [i16; TRAIL],
     made: usize,
-    /// How many of them had the clauses of their variable visited.
+    /// How many of them had the clauses of their negation visited.
     seen: usize,
+    /// The number of clauses without a true literal.
+    unmet: usize,
     /// For each open first branch, where its literal stands on the trail.
     marks: [u16; TRAIL],
+    /// For each open first branch, the number of unmet clauses before it.
+    unmet_before: [u16; TRAIL],
     open: usize,
-    /// From this clause on all are met.
-    met_from: usize,
     holders: Holders,
 }
 
@@ -52,30 +58,35 @@ impl Default for Space {
             trail: [0; TRAIL],
             made: 0,
             seen: 0,
+            unmet: 0,
             marks: [0; TRAIL],
+            unmet_before: [0; TRAIL],
             open: 0,
-            met_from: 0,
-            holders: Holders { last: [0; TRAIL], before: [0; 3 * CLAUSES + 1] },
+            holders: Holders { last: [0; LITERALS], before: [0; 3 * CLAUSES + 1] },
         }
     }
 }
 
-/// The places of each variable among the numbers of the clauses, counted from 1: a chain from the
-/// last to the first, ended by 0.
+/// The places of each literal among the numbers of the clauses, counted from 1: a chain from the
+/// last to the first, ended by 0. A clause that repeats a literal is in its chain once, by the
+/// first of these places.
 struct Holders {
-    /// By variable.
-    last: [u16; TRAIL],
-    /// By place: the one before it that has the same variable.
+    /// By literal, see [`slot`].
+    last: [u16; LITERALS],
+    /// By place: the one before it that has the same literal.
     before: [u16; 3 * CLAUSES + 1],
 }
 
 impl Holders {
-    fn chain(&mut self, clauses: &[[i16; 3]], variables: usize) {
+    fn chain(&mut self, clauses: &[Clause], variables: usize) {
         self.last[..=variables].fill(0);
-        for (place, literal) in (1..).zip(clauses.as_flattened()) {
-            let last = &mut self.last[variable(*literal)];
-            self.before[usize::from(place)] = *last;
-            *last = place;
+        self.last[LITERALS - variables..].fill(0);
+        for (place, literal) in (1u16..).zip(clauses.as_flattened()) {
+            let last = &mut self.last[slot(*literal)];
+            if last.div_ceil(3) != place.div_ceil(3) {
+                self.before[usize::from(place)] = *last;
+                *last = place;
+            }
         }
     }
 }
@@ -90,30 +101,44 @@ fn slot(literal: i16) -> usize {
 }
 
 impl Space {
-    fn start(&mut self, clauses: &[[i16; 3]], variables: usize) {
+    fn start(&mut self, clauses: &[Clause], variables: usize) {
         self.truth.fill(FALSE);
         self.truth[1..=variables].fill(UNASSIGNED);
         self.truth[LITERALS - variables..].fill(UNASSIGNED);
         self.made = 0;
         self.seen = 0;
+        self.unmet = clauses.len();
         self.open = 0;
-        self.met_from = clauses.len();
         self.holders.chain(clauses, variables);
     }
 
-    fn make_true(&mut self, literal: i16) {
+    /// How many of a literal's clauses have no true literal.
+    fn unmet_with(&self, clauses: &[Clause], literal: i16) -> usize {
+        let mut unmet = 0;
+        let mut place = self.holders.last[slot(literal)];
+        while let Some(at) = usize::from(place).checked_sub(1) {
+            place = self.holders.before[at + 1];
+            let sum: u8 = clauses[at / 3].iter().map(|&other| self.truth[slot(other)]).sum();
+            unmet += usize::from(sum < TRUE);
+        }
+        unmet
+    }
+
+    /// Makes an unassigned literal true.
+    fn make_true(&mut self, clauses: &[Clause], literal: i16) {
+        self.unmet -= self.unmet_with(clauses, literal);
         self.truth[slot(literal)] = TRUE;
         self.truth[slot(literal.wrapping_neg())] = FALSE;
         self.trail[self.made] = literal;
         self.made += 1;
+        #[cfg(test)]
+        self.compare(clauses);
     }
 
     fn undo(&mut self, made: usize) {
         for &literal in &self.trail[made..self.made] {
             self.truth[slot(literal)] = UNASSIGNED;
             self.truth[slot(literal.wrapping_neg())] = UNASSIGNED;
-            let end = self.holders.last[variable(literal)].div_ceil(3);
-            self.met_from = self.met_from.max(usize::from(end));
         }
         self.made = made;
         self.seen = made;
@@ -121,63 +146,61 @@ impl Space {
 
     /// Makes true what a clause forces; false if it fails. A repeated literal is left out of the
     /// sum, so that met and open need no telling apart: a branch on that is mostly guessed wrong.
-    fn visit(&mut self, clause: &[i16; 3]) -> bool {
+    fn visit(&mut self, clauses: &[Clause], clause: &Clause) -> bool {
         let [a, b, c] = *clause;
         let [of_a, of_b, of_c] = clause.map(|literal| self.truth[slot(literal)]);
         let sum = of_a + of_b * u8::from(b != a) + of_c * u8::from((c != a) & (c != b));
         if sum == UNASSIGNED {
-            self.make_true(match (of_a, of_b) {
+            let forced = match (of_a, of_b) {
                 (UNASSIGNED, _) => a,
                 (_, UNASSIGNED) => b,
                 _ => c,
-            });
+            };
+            self.make_true(clauses, forced);
         }
         sum != FALSE
     }
 
-    /// Visits the clauses that hold a variable assigned since; false if one fails.
-    fn propagate(&mut self, clauses: &[[i16; 3]]) -> bool {
+    /// Visits the clauses that hold a literal made false since; false if one fails.
+    fn propagate(&mut self, clauses: &[Clause]) -> bool {
         while self.seen < self.made {
-            let mut place = self.holders.last[variable(self.trail[self.seen])];
+            let mut place = self.holders.last[slot(self.trail[self.seen].wrapping_neg())];
             self.seen += 1;
             while let Some(at) = usize::from(place).checked_sub(1) {
-                if !self.visit(&clauses[at / 3]) {
+                place = self.holders.before[at + 1];
+                if !self.visit(clauses, &clauses[at / 3]) {
                     return false;
                 }
-                place = self.holders.before[at + 1];
             }
         }
         true
     }
 
     /// Propagation at a node; at the root it starts with a visit of every clause.
-    fn settle(&mut self, clauses: &[[i16; 3]], root: bool) -> bool {
-        (!root || clauses.iter().all(|clause| self.visit(clause))) && self.propagate(clauses)
-    }
-
-    /// Whether every clause has a true literal, asked from the last down that may have none.
-    fn met(&mut self, clauses: &[[i16; 3]]) -> bool {
-        let sum = |clause: &[i16; 3]| clause.iter().map(|&l| self.truth[slot(l)]).sum::<u8>();
-        let open = clauses[..self.met_from].iter().rposition(|clause| sum(clause) < TRUE);
-        self.met_from = open.map_or(0, |at| at + 1);
-        open.is_none()
+    fn settle(&mut self, clauses: &[Clause], root: bool) -> bool {
+        (!root || clauses.iter().all(|clause| self.visit(clauses, clause)))
+            && self.propagate(clauses)
     }
 
     /// The first branch on a variable.
-    fn branch(&mut self, variable: usize) {
+    fn branch(&mut self, clauses: &[Clause], variable: usize) {
         self.marks[self.open] = self.made as u16;
+        self.unmet_before[self.open] = self.unmet as u16;
         self.open += 1;
-        self.make_true(variable as i16);
+        self.make_true(clauses, variable as i16);
     }
 
     /// Back to the last first branch, and into its second one; gives the variable. `None` if
     /// there is no first branch left.
-    fn turn(&mut self) -> Option<usize> {
+    fn turn(&mut self, clauses: &[Clause]) -> Option<usize> {
         self.open = self.open.checked_sub(1)?;
         let mark = usize::from(self.marks[self.open]);
         let literal = self.trail[mark];
         self.undo(mark);
-        self.make_true(-literal);
+        self.unmet = usize::from(self.unmet_before[self.open]);
+        #[cfg(test)]
+        self.compare(clauses);
+        self.make_true(clauses, -literal);
         Some(variable(literal))
     }
 
@@ -186,21 +209,21 @@ impl Space {
         (from..=variables).find(|&variable| self.truth[variable] == UNASSIGNED)
     }
 
-    fn run(&mut self, clauses: &[[i16; 3]], variables: usize, budget: u32) -> Found {
+    fn run(&mut self, clauses: &[Clause], variables: usize, budget: u32) -> Found {
         let mut from = 1;
         for entered in 0..budget {
             let count = entered + 1;
             let calm = self.settle(clauses, entered == 0);
-            if calm && self.met(clauses) {
+            if calm && self.unmet == 0 {
                 return Found { verdict: Verdict::Yes, count };
             }
             let next = if calm { self.lowest(from, variables) } else { None };
             let branched = match next {
                 Some(variable) => {
-                    self.branch(variable);
+                    self.branch(clauses, variable);
                     next
                 }
-                None => self.turn(),
+                None => self.turn(clauses),
             };
             match branched {
                 Some(variable) => from = variable + 1,
@@ -233,4 +256,51 @@ pub fn search(
         *value = u8::from(yes && truth == TRUE);
     }
     found
+}
+
+#[cfg(test)]
+mod tests {
+    use super::*;
+    use crate::generate::Rng;
+
+    impl Space {
+        /// The number of unmet clauses is that of a scan, which looks for literals on the trail.
+        pub(super) fn compare(&self, clauses: &[Clause]) {
+            let made = &self.trail[..self.made];
+            let met = |clause: &&Clause| clause.iter().any(|literal| made.contains(literal));
+            let unmet = clauses.len() - clauses.iter().filter(met).count();
+            assert_eq!(self.unmet, unmet, "{made:?} made true of {clauses:?}");
+        }
+    }
+
+    /// Any three numbers: unused places, repeated literals, both signs.
+    fn clause(rng: &mut Rng, variables: usize) -> Clause {
+        [(); 3].map(|()| {
+            let variable = rng.between(0, variables) as i16;
+            [variable, -variable][rng.below(2)]
+        })
+    }
+
+    /// Each step of these searches compares the number with a scan.
+    #[test]
+    fn the_number_of_unmet_clauses_is_that_of_a_scan() {
+        let (mut space, mut values) = (Space::default(), [0; 20]);
+        let (mut yes, mut no, mut nodes) = (0, 0, 0);
+        for seed in 0..5_000 {
+            let mut rng = Rng::new(seed);
+            let variables = rng.between(1, 20);
+            let number = rng.between(0, 5 * variables);
+            let clauses: Vec<Clause> = (0..number).map(|_| clause(&mut rng, variables)).collect();
+            let flat = clauses.as_flattened();
+            let found = search(flat, number, variables, u32::MAX, &mut space, &mut values);
+            let branched = u32::from(found.count > 1);
+            match found.verdict {
+                Verdict::Yes => yes += branched,
+                Verdict::No => no += branched,
+                Verdict::Stopped => panic!("stopped without a budget"),
+            }
+            nodes += found.count;
+        }
+        assert!(yes > 1_000 && no > 300 && nodes > 20_000, "{yes} {no} {nodes}");
+    }
 }

@@ -1,5 +1,6 @@
-//! The search that visits only clauses of variables just assigned, against the scanning one:
-//! verdict, count and values on random clauses, at budgets around the count.
+//! The search that visits only clauses of literals just made false and counts the unmet ones,
+//! against the scanning one: verdict, count and values on random clauses, at budgets around the
+//! count.
 
 use second::generate::Rng;
 use second::scanning;

@@ -1,5 +1,5 @@
--- `search::search` meets its contract: the walk starts at the root, and each of its outcomes is the answer within the budget. Assumes nothing.
-use mathlib.Core.Path.{_≡_, refl, sym, subst, _∙_}
+-- `branching::search` meets its contract: the walk starts at the root, and each of its outcomes is the answer within the budget. Assumes nothing.
+use mathlib.Core.Path.{_≡_, refl, sym, ap, subst, _∙_}
 use mathlib.Core.List.{List}
 use Prim.Native.Nat.{ℕ}
 use native.Mathlib.Omega.{arith}
@@ -10,9 +10,11 @@ use Rattle.search.specs.Search.{Run, run}
 use Rattle.propagation.specs.Ready.{Ready}
 use Rattle.propagation.specs.Links.{Linked}
 use Rattle.propagation.specs.Judging.{Mirrors, Shown}
+use Rattle.propagation.specs.Unmet.{unmetAmong, Counts}
 use Rattle.branching.specs.Nodes.{Ran}
 use Rattle.search.proofs.Marks.{zeros-le}
 use Rattle.propagation.proofs.Table.{unset, mirrors-none}
+use Rattle.propagation.proofs.Unmet.{unmet-root}
 use Rattle.branching.proofs.Whole.{run-is}
 use Rattle.ground.proofs.Buffers.{cleared-all}
 use Rattle.branching.proofs.Answers.{answer-ran}
@@ -40,6 +42,12 @@ module _ (C : tie.After-clear-u8) where
         mirrors = subst (λ (x : List ℕ). Mirrors x unset) (sym none) (mirrors-none (length (s .args .values .now)) (s .pre .0 .small));
       }
 
+  -- and no clause is met
+  counts : Counts (s .args .clauses .now) a (s .args .many)
+  counts =
+      sym (unmet-root (s .args .clauses .now) (s .args .many) (length (s .args .values .now)) (s .pre .0 .long))
+      ∙ ap (λ (x : List ℕ). unmetAmong x (triples (s .args .clauses .now))) (sym none)
+
 link-requires : tie.Need-link-requires
 link-requires c κs = let s = c .before .before .before .before .before .before .before in (s .args .many, s .pre .0, s .pre .1)
 
@@ -52,17 +60,22 @@ slice-aggregate-walk c = search needs
 slice-aggregate-walk-2 : tie.Need-slice-aggregate-walk-2
 slice-aggregate-walk-2 c = search needs
 
+slice-aggregate-walk-3 : tie.Need-slice-aggregate-walk-3
+slice-aggregate-walk-3 c = search needs
+
 walk-requires : tie.Need-walk-requires
 walk-requires c κs =
-    let K = c .before .before .before .before .before .before in
+    let K = c .before .before .before .before .before .before .before in
     let C = K .before .before .before .before in (
       shown C,
       subst (λ (v : ℕ). Linked (s C .args .clauses .now) v (length (s C .args .clauses .now)) (K .link .last .1 .1 .0)) (sym (C .clear-u8 .kept .0)) (K .link .ensures),
       omega (arith, zeros-le (a C), C .clear-u8 .kept .0, s C .pre .0 .small, length-replicate {A = ℕ} 4095 0),
+      refl,
+      counts C,
     )
 
 clear-u16-requires : tie.Need-clear-u16-requires
-clear-u16-requires c κs = let K = c .before .before .before .before .before .before .before .before .before .before .before .before in omega (arith, K .link .kept .1 .1 .0)
+clear-u16-requires c κs = let K = c .before .before .before .before .before .before .before .before .before .before .before .before .before .before in omega (arith, K .link .kept .1 .1 .0)
 
 leave-requires : tie.Need-leave-requires
 leave-requires c κs = search needs
@@ -70,7 +83,7 @@ leave-requires c κs = search needs
 -- after the walk: the run, within the budget
 module _ (W : tie.After-walk) where
   abbrev K : tie.After-link
-  K = W .before .before .before .before .before .before .before
+  K = W .before .before .before .before .before .before .before .before
 
   abbrev C : tie.After-clear-u8
   C = K .before .before .before .before
@@ -104,7 +117,7 @@ returns : tie.Need-returns
 returns c =
     let L = c .before .before in
     let T = L .before .before .before .before in
-    let W = T .before .before .before .before .before .before in
+    let W = T .before .before .before .before .before .before .before in
     let y = answer-ran (z W .args .budget) (v W) (R W) (a′ W) (long W) (W .walk .result) (ran W) in
     record {
       gives = y .0;
@@ -115,4 +128,4 @@ returns c =
 pub search-spec : {M : Type 1} → statement M
 search-spec =
     tie.close
-    (tie.spec clear-u8-requires array-write-truth link-requires slice-aggregate-walk slice-aggregate-walk-2 walk-requires clear-u16-requires leave-requires same-length same-length-2 returns)
+    (tie.spec clear-u8-requires array-write-truth link-requires slice-aggregate-walk slice-aggregate-walk-2 slice-aggregate-walk-3 walk-requires clear-u16-requires leave-requires same-length same-length-2 returns)

@@ -11,6 +11,9 @@ use Rattle.checker.proofs.decide.Tie as tie
 mul-end : tie.Need-mul-end
 mul-end c = search needs
 
+mul-space : tie.Need-mul-space
+mul-space c = search needs
+
 add-space : tie.Need-add-space
 add-space c = search needs
 
@@ -85,6 +88,7 @@ decide-spec =
     tie.close
     (tie.spec
     mul-end
+    mul-space
     add-space
     add-space-2
     slice-aggregate-search

@@ -1,30 +1,76 @@
--- `search::branch::first_branch` meets its contract. Assumes nothing.
-use mathlib.Core.Path.{ap}
-use Prim.Native.Nat.{ℕ, _+_}
+-- `branching::branch::first_branch` meets its contract. Assumes nothing.
+use mathlib.Core.Path.{_≡_, ap, _∙_}
+use Prim.Native.Nat.{ℕ, _+_, _<_}
 use native.Mathlib.Omega.{arith}
 use borrow.Author.Needs.{needs}
+use lib.ListN.{length, getD, set}
+use Rattle.search.specs.Search.{lowest}
+use Rattle.search.proofs.Marks.{lowest-is}
+use Rattle.propagation.specs.Trail.{firstBranch, entryFor}
 use Rattle.propagation.specs.declared.trail.Step.the-variants.{Next}
-use Rattle.search.proofs.Marks.{lowest-is, lowest-le}
+use Rattle.propagation.proofs.Unmet.{unmet-most}
 use Rattle.branching.proofs.branch.first_branch.Statement.{statement}
 use Rattle.branching.proofs.branch.first_branch.Tie as tie
 
 lowest-requires : tie.Need-lowest-requires
 lowest-requires c κs = search needs
 
-note-requires : tie.Need-note-requires
-note-requires c κs =
+-- the variable that is branched on
+module _ (L : tie.After-lowest) where
+  abbrev s : tie.Start
+  s = L .before .before .before .before .before .before .before
+
+  abbrev i : ℕ
+  i = L .lowest .result
+
+  lowest-one : i ≡ lowest (s .args .values .now)
+  lowest-one = L .lowest .ensures
+
+  in-values : i < length (s .args .values .now)
+  in-values = omega (arith, lowest-one, lowest-is (s .args .values .now) (s .pre .2) .0)
+
+  small : i < 4096
+  small = omega (arith, in-values, s .pre .0 .1 .ready .small)
+
+entry-requires : tie.Need-entry-requires
+entry-requires c κs = (omega (arith, small c), omega arith, omega arith)
+
+add-trail : tie.Need-add-trail
+add-trail c = record { fits = omega (arith, c .entry .ensures, small (c .before)) }
+
+mul-trail : tie.Need-mul-trail
+mul-trail c = search needs
+
+slice-write-trail : tie.Need-slice-write-trail
+slice-write-trail c = search needs
+
+cast-saved : tie.Need-cast-saved
+cast-saved c =
+    let z = s (c .before) in
+    let R = z .pre .0 .1 .ready in
+    record { fits = omega (arith, z .pre .6, unmet-most (z .args .clauses .now) (z .pre .0 .0) (R .long) (z .args .values .now), R .few) }
+
+mul-saved : tie.Need-mul-saved
+mul-saved c = search needs
+
+slice-write-saved : tie.Need-slice-write-saved
+slice-write-saved c = search needs
+
+assign-requires : tie.Need-assign-requires
+assign-requires c κs =
     let L = c .before .before .before in
-    let s = L .before .before .before .before .before in
-    (s .pre .1, omega (arith, L .lowest .ensures, lowest-is (s .args .values .now) (s .pre .0) .0, s .pre .3 .small), s .pre .3)
+    let z = s L in (
+      z .pre .0,
+      z .pre .1,
+      in-values L,
+      ap (λ (k : ℕ). getD (z .args .values .now) k 0) (lowest-one L) ∙ lowest-is (z .args .values .now) (z .pre .2) .1,
+      omega arith,
+      omega arith,
+      z .pre .6,
+    )
 
-add-t17 : tie.Need-add-t17
-add-t17 c = search needs
-
-add-t18 : tie.Need-add-t18
-add-t18 c =
-    let L = c .before .before .before .before .before .before .before .before .before .before in
-    let s = L .before .before .before .before .before in
-    record { fits = omega (arith, L .lowest .ensures, lowest-le (s .args .values .now), s .pre .3 .small) }
+add-t16 : tie.Need-add-t16
+add-t16 c = search needs
 
 same-length : tie.Need-same-length
 same-length c = search needs
@@ -35,12 +81,26 @@ same-length-2 c = search needs
 same-length-3 : tie.Need-same-length-3
 same-length-3 c = search needs
 
+same-length-4 : tie.Need-same-length-4
+same-length-4 c = search needs
+
 returns : tie.Need-returns
 returns c =
-    let n = c .before .before .before .before .before .before in
-    let e = n .before .before .before .before .lowest .ensures in
-    let s = n .before .before .before .before .before .before .before .before .before in
-    (record { marks = rw e at (n .note .ensures .0); notes = rw e at (n .note .ensures .1); leads = ap (λ (i : ℕ). Next (s .args .n + 1) (i + 1) (s .args .span)) e }, n .note .ensures .2)
+    let A = c .before .before .before .before in
+    let E = A .before .before .before in
+    let L = E .before in
+    let z = s L in (
+      record {
+        marks = A .assign .ensures .0 ∙ ap (λ (k : ℕ). set (z .args .values .now) k 1) (lowest-one L);
+        notes = ap (λ (k : ℕ). set (z .args .trail .now) (z .args .n) (k + firstBranch)) (E .entry .ensures ∙ ap (λ (k : ℕ). entryFor k 1) (lowest-one L));
+        saves = ap (set (z .args .saved .now) (z .args .n)) (z .pre .6);
+        leads = ap (Next (z .args .n + 1)) (A .assign .ensures .2);
+      },
+      A .assign .ensures .1,
+    )
 
 pub first-branch-spec : {M : Type 1} → statement M
-first-branch-spec = tie.close (tie.spec lowest-requires note-requires add-t17 add-t18 same-length same-length-2 same-length-3 returns)
+first-branch-spec =
+    tie.close
+    (tie.spec lowest-requires entry-requires add-trail mul-trail slice-write-trail cast-saved mul-saved slice-write-saved assign-requires add-t16
+    same-length same-length-2 same-length-3 same-length-4 returns)

@@ -1,33 +1,39 @@
--- `search::branch::next` meets its contract: what `settle`, `unmet`, `first_branch` and `back` promise makes a step. Assumes nothing.
-use mathlib.Core.Path.{_≡_, sym, subst}
+-- `branching::branch::next` meets its contract: what `settle`, `first_branch` and `back` promise makes a step, and the number of unmet clauses tells whether
+-- all are met. Assumes nothing.
+use mathlib.Core.Path.{_≡_, sym, subst, _∙_}
 use mathlib.Core.Bool.{Bool, true, false}
 use mathlib.Core.List.{List}
 use Prim.Native.Nat.{ℕ, _≤_, _<_}
 use native.Mathlib.Omega.{arith}
 use borrow.Author.Needs.{needs}
+use borrow.Author.Tests.{eq-eqb, ne-eqb}
 use lib.ListN.{length}
 use lib.IntN.{ℤ}
 use Rattle.clauses.specs.Clause.{triples}
 use Rattle.search.specs.Search.{allMet, lowest}
+use Rattle.search.specs.Models.{ClausesIn}
 use Rattle.propagation.specs.Ready.{Ready}
 use Rattle.propagation.specs.Links.{Linked}
-use Rattle.search.specs.Models.{ClausesIn}
-use Rattle.propagation.specs.Judging.{Shown, Passed, Ends}
-use Rattle.propagation.specs.Trail.{firstBranch}
+use Rattle.propagation.specs.Judging.{Shown}
+use Rattle.propagation.specs.Unmet.{unmetAmong}
+use Rattle.propagation.specs.Trail.{Branch, pending, AllSaved}
 use Rattle.propagation.specs.Propagation.{Settling}
 use Rattle.propagation.proofs.Triples.{triples-in}
-use Rattle.propagation.proofs.Passed.{passed-all, unmet-some}
-use Rattle.branching.proofs.Whole.{branch-open, stepped-yes, stepped-branch, stepped-back}
+use Rattle.propagation.proofs.Unmet.{number-tells}
+use Rattle.branching.proofs.Whole.{branch-open, stepped-yes, stepped-branch, stepped-back, above-low}
 use Rattle.branching.proofs.branch.next.Statement.{statement}
 use Rattle.branching.proofs.branch.next.Tie as tie
 
+above-requires : tie.Need-above-requires
+above-requires c κs = omega (arith, c .before .before .before .before .before .before .pre .2)
+
 settle-requires : tie.Need-settle-requires
-settle-requires c κs = let p = c .before .before .before .before .before .before .before .pre in (p .0, p .1, p .2, p .4)
+settle-requires c κs = let p = c .before .before .before .before .before .before .before .before .before .before .pre in (p .0, p .1, p .2, p .4, p .6)
 
 -- after propagation
 module _ (S : tie.After-settle) where
   abbrev s : tie.Start
-  s = S .before .before .before .before .before .before .before .before
+  s = S .before .before .before .before .before .before .before .before .before .before .before
 
   abbrev cl : List ℤ
   cl = s .args .clauses .now
@@ -37,6 +43,9 @@ module _ (S : tie.After-settle) where
 
   abbrev t : List ℕ
   t = s .args .trail .now
+
+  abbrev sv : List ℕ
+  sv = s .args .saved .now
 
   abbrev b : List ℕ
   b = S .settle .last .1 .1 .1 .0
@@ -69,29 +78,22 @@ module _ (S : tie.After-settle) where
   long : length u ≡ length t
   long = S .settle .kept .1 .1 .1 .1 .1 .0
 
-  from-low : s .args .from ≤ lowest b
-  from-low = omega (arith, S .settle .ensures .0 .low, s .pre .3)
+  from-low : S .before .before .before .before .above .result ≤ lowest b
+  from-low = omega (arith, S .before .before .before .before .above .ensures, above-low cl a t (s .args .n) (s .pre .4), S .settle .ensures .0 .low)
 
-  small : length a < firstBranch
-  small = omega (arith, s .pre .0 .ready .small)
+  small : length a < 4096
+  small = s .pre .0 .ready .small
 
-  -- what was met still is
-  stays : Passed cl b (s .args .span)
-  stays = S .settle .ensures .0 .stays (s .args .span) (s .pre .5)
+  saved : AllSaved cl sv (pending b u top)
+  saved = subst (λ (P : List Branch). AllSaved cl sv P) (sym (S .settle .ensures .0 .back)) (s .pre .5)
 
-unmet-requires : tie.Need-unmet-requires
-unmet-requires c κs = let S = c .before .before .before .before .before .before .before .before in ((_, (_, shown S)), s S .pre .5 .low)
+-- it ended calmly
+module _ (c : tie.Then1) where
+  abbrev S₁ : tie.After-settle
+  S₁ = c .before .before .before .before .before .before .before
 
--- after a look at the clauses
-module _ (A : tie.After-unmet) where
-  abbrev S : tie.After-settle
-  S = A .before .before .before .before .before .before .before .before .before
-
-  calmly : Settling (cl S) (s S .args .n) (a S) (t S) (b S) (u S) true (top S)
-  calmly = settled S true (A .before .before .if1 .taken)
-
-  ends : Ends (cl S) (b S) (A .unmet .result)
-  ends = A .unmet .ensures (b S) (_, shown S) (stays S)
+  calmly : Settling (cl S₁) (s S₁ .args .n) (a S₁) (t S₁) (b S₁) (u S₁) true (top S₁)
+  calmly = settled S₁ true (c .if1 .taken)
 
 same-length : tie.Need-same-length
 same-length c = search needs
@@ -103,29 +105,48 @@ same-length-3 : tie.Need-same-length-3
 same-length-3 c = search needs
 
 returns : tie.Need-returns
-returns c = let A = c .before in (stepped-yes (calmly A) (passed-all (cl (S A)) (b (S A)) (subst (λ (k : ℕ). Passed (cl (S A)) (b (S A)) k) (c .if2 .taken) (ends A .passed))), S A .settle .ensures .1)
+returns c =
+    let C = c .before in
+    let S = S₁ C in
+    (stepped-yes (calmly C) (sym (number-tells (b S) (triples (cl S))) ∙ eq-eqb (unmetAmong (b S) (triples (cl S))) 0 (sym (S .settle .ensures .2) ∙ c .if2 .taken)) (sv S), S .settle .ensures .1)
 
 -- some clause is not met, so that there is something to branch on, and room to note it
 module _ (e : tie.Else2) where
-  abbrev A : tie.After-unmet
-  A = e .before
+  abbrev C : tie.Then1
+  C = e .before
 
-  unmet : allMet (b (S A)) (triples (cl (S A))) ≡ false
-  unmet = unmet-some (cl (S A)) (b (S A)) (A .unmet .result) (omega (arith, e .if2 .left)) (ends A)
+  abbrev S₂ : tie.After-settle
+  S₂ = S₁ C
 
-  room : top (S A) < length (u (S A))
-  room = omega (arith, branch-open (within (S A)) (calmly A) unmet, calmly A .used, long (S A), s (S A) .pre .2)
+  unmet : allMet (b S₂) (triples (cl S₂)) ≡ false
+  unmet =
+      sym (number-tells (b S₂) (triples (cl S₂)))
+      ∙ ne-eqb (unmetAmong (b S₂) (triples (cl S₂))) 0 (λ z. omega (arith, S₂ .settle .ensures .2, e .if2 .left, z))
+
+  room : top S₂ < length (u S₂)
+  room = omega (arith, branch-open (within S₂) (calmly C) unmet, calmly C .used, long S₂, s S₂ .pre .2)
+
+  room-saved : top S₂ < length (sv S₂)
+  room-saved = omega (arith, room, long S₂, s S₂ .pre .3)
 
 first-branch-requires : tie.Need-first-branch-requires
 first-branch-requires c κs =
-    let e = c .before .before .before in
-    let S = S (A e) in
-    (branch-open (within S) (calmly (A e)) (unmet e), room e, from-low S, S .settle .ensures .1)
+    let e = c .before .before .before .before in
+    let S = S₂ e in (
+      (_, shown S),
+      linked S,
+      branch-open (within S) (calmly (C e)) (unmet e),
+      room e,
+      room-saved e,
+      from-low S,
+      S .settle .ensures .2,
+    )
 
 back-requires : tie.Need-back-requires
 back-requires c κs =
-    let S = c .before .before .before .before .before .before .before .before .before .before in
-    (omega (arith, S .settle .ensures .0 .used, long S, s S .pre .2), from-low S, omega (arith, linked S .long), S .settle .ensures .1)
+    let S = c .before .before .before .before .before .before .before .before .before .before .before in
+    let used = S .settle .ensures .0 .used in
+    ((_, shown S), linked S, omega (arith, used, long S, s S .pre .2), omega (arith, used, s S .pre .2, s S .pre .3), saved S)
 
 same-length-4 : tie.Need-same-length-4
 same-length-4 c = search needs
@@ -136,15 +157,16 @@ same-length-5 c = search needs
 same-length-6 : tie.Need-same-length-6
 same-length-6 c = search needs
 
-returns-2 : tie.Need-returns-2
-returns-2 c =
-    let f = c .before .before .before .before .before .before in
-    let e = f .before .before .before .before in
-    let S = S (A e) in
-    (stepped-branch (within S) (calmly (A e)) (unmet e) (room e) (s S .pre .4) (small S) (ends (A e) .passed) (f .first-branch .ensures .0), f .first-branch .ensures .1)
-
 same-length-7 : tie.Need-same-length-7
 same-length-7 c = search needs
+
+returns-2 : tie.Need-returns-2
+returns-2 c =
+    let f = c .before .before .before .before .before .before .before .before in
+    let e = f .before .before .before .before .before in
+    let S = S₂ e in
+    let p = s S .pre in
+    (stepped-branch (within S) (calmly (C e)) (unmet e) (small S) (room e) (p .4) (sv S) (room-saved e) (p .5) (f .first-branch .ensures .0), f .first-branch .ensures .1)
 
 same-length-8 : tie.Need-same-length-8
 same-length-8 c = search needs
@@ -152,15 +174,22 @@ same-length-8 c = search needs
 same-length-9 : tie.Need-same-length-9
 same-length-9 c = search needs
 
+same-length-10 : tie.Need-same-length-10
+same-length-10 c = search needs
+
+same-length-11 : tie.Need-same-length-11
+same-length-11 c = search needs
+
 returns-3 : tie.Need-returns-3
 returns-3 c =
     let B = c .before .before .before .before .before .before in
-    let F = B .before .before .before .before in
+    let F = B .before .before .before .before .before in
     let S = F .before .before .before .before .before .before .before in
-    (stepped-back (settled S false (F .if1 .left)) (s S .pre .4) (shown S .ready) (linked S) (s S .pre .5) (B .back .last .1 .0) (B .back .last .1 .1 .1 .0) (B .back .result) (B .back .ensures .0) (B .back .ensures .1), B .back .ensures .2)
+    let p = s S .pre in
+    (stepped-back (settled S false (F .if1 .left)) (p .4) (sv S) (p .5) (B .back .last .1 .1 .0) (B .back .last .1 .1 .1 .1 .0) (B .back .result) (B .back .ensures .0), B .back .ensures .1)
 
 pub next-spec : {M : Type 1} → statement M
 next-spec =
     tie.close
-    (tie.spec settle-requires unmet-requires same-length same-length-2 same-length-3 returns first-branch-requires back-requires
-    same-length-4 same-length-5 same-length-6 returns-2 same-length-7 same-length-8 same-length-9 returns-3)
+    (tie.spec above-requires settle-requires same-length same-length-2 same-length-3 returns first-branch-requires back-requires
+    same-length-4 same-length-5 same-length-6 same-length-7 returns-2 same-length-8 same-length-9 same-length-10 same-length-11 returns-3)

@@ -1,4 +1,4 @@
--- `search::propagate::follow` meets its contract. The invariant: the entries from the head up to the top are a queue, in which every clause waits that could
+-- `propagation::propagate::follow` meets its contract. The invariant: the entries from the head up to the top are a queue, in which every clause waits that could
 -- fail or force. Assumes nothing.
 use mathlib.Core.Path.{_≡_, refl, sym, subst, _∙_}
 use mathlib.Core.Bool.{Bool, true, false}
@@ -16,23 +16,25 @@ use Rattle.search.specs.Search.{zeros}
 use Rattle.propagation.specs.Ready.{Ready}
 use Rattle.propagation.specs.Links.{Linked}
 use Rattle.propagation.specs.Judging.{Mirrors}
+use Rattle.propagation.specs.Unmet.{Counts}
 use Rattle.propagation.specs.Trail.{noted}
 use Rattle.propagation.specs.Propagation.{Held, Waits, Calmed, Moved, Every, Holding, Heard, Queue}
-use Rattle.propagation.proofs.Moves.{calmed-from, calmed-end, waits-on, inside-on, moved-none, moved-then}
+use Rattle.propagation.proofs.Moves.{calmed-from, calmed-end, waits-on, marked-on, moved-none, moved-then}
 use Rattle.propagation.proofs.propagate.follow.Statement.{statement}
 use Rattle.propagation.proofs.propagate.follow.Tie as tie
 
-record Way (cl : List ℤ) (a₀ t₀ : List ℕ) (n : ℕ) (a w t : List ℕ) (head top : ℕ) : Type 0 where
+record Way (cl : List ℤ) (a₀ t₀ : List ℕ) (n : ℕ) (a w t : List ℕ) (head top left : ℕ) : Type 0 where
   low : head ≤ top
   moved : Moved cl n a₀ t₀ top a t
   queue : Queue cl a t head top
   mirrors : Mirrors a w
+  counts : Counts cl a left
 
 abbrev Inv-loop : tie.InvT-loop
-Inv-loop cl L a₀ w₀ t₀ from n head₀ top₀ a w t head top = Way cl a₀ t₀ n a w t head top
+Inv-loop cl L a₀ w₀ t₀ from n unmet head₀ top₀ left₀ a w t head top left = Way cl a₀ t₀ n a w t head top left
 
 abbrev μ-loop : tie.MeasureT-loop
-μ-loop cl L a₀ w₀ t₀ from n head₀ top₀ a w t head top = top + zeros a - head
+μ-loop cl L a₀ w₀ t₀ from n unmet head₀ top₀ left₀ a w t head top left = top + zeros a - head
 
 loop-holds : tie.Need-loop-holds Inv-loop μ-loop
 loop-holds c =
@@ -42,6 +44,7 @@ loop-holds c =
       moved = moved-none (s .args .clauses .now) (s .args .n) (s .args .values .now) (s .args .trail .now);
       queue = s .pre .4;
       mirrors = s .pre .0 .1 .mirrors;
+      counts = s .pre .5;
     }
 
 -- at the loop's head
@@ -52,7 +55,7 @@ module _ (h : tie.At-loop Inv-loop μ-loop) where
   abbrev cl : List ℤ
   cl = s .args .clauses .now
 
-  abbrev I : Way cl (s .args .values .now) (s .args .trail .now) (s .args .n) (h .loop .values) (h .loop .truth) (h .loop .trail) (h .loop .head) (h .loop .top)
+  abbrev I : Way cl (s .args .values .now) (s .args .trail .now) (s .args .n) (h .loop .values) (h .loop .truth) (h .loop .trail) (h .loop .head) (h .loop .top) (h .loop .left)
   I = h .loop .inv
 
   ready : Ready cl (s .pre .0 .0) (length (h .loop .values))
@@ -71,22 +74,23 @@ module _ (c : tie.In-loop Inv-loop μ-loop) where
   in-trail : c .before .loop .head < length (c .before .loop .trail)
   in-trail = omega (arith, room (c .before), c .loop-test .taken)
 
-mul-x : tie.Need-mul-x Inv-loop μ-loop
-mul-x c = let h = c .before in record { fits = omega (arith, in-trail c, I h .moved .long-t, s h .good .1 .1 .1 .1 .0 .1) }
+mul-e : tie.Need-mul-e Inv-loop μ-loop
+mul-e c = let h = c .before in record { fits = omega (arith, in-trail c, I h .moved .long-t, s h .good .1 .1 .1 .1 .0 .1) }
 
-slice-read-x : tie.Need-slice-read-x Inv-loop μ-loop
-slice-read-x c = in-trail (c .before)
+slice-read-e : tie.Need-slice-read-e Inv-loop μ-loop
+slice-read-e c = in-trail (c .before)
 
-cast-x : tie.Need-cast-x Inv-loop μ-loop
-cast-x c = search needs
+cast-e : tie.Need-cast-e Inv-loop μ-loop
+cast-e c = search needs
 
 visit-requires : tie.Need-visit-requires Inv-loop μ-loop
 visit-requires c κs =
     let h = c .before .before .before .before .before in (
       (_, record { ready = ready h; mirrors = I h .mirrors }),
       linked h,
-      I h .queue .inside (h .loop .head) (omega arith) (c .before .before .before .before .loop-test .taken),
+      I h .queue .marked (h .loop .head) (omega arith) (c .before .before .before .before .loop-test .taken),
       room h,
+      I h .counts,
     )
 
 -- after the entry at the head was visited
@@ -150,7 +154,7 @@ module _ (c : tie.After-visit Inv-loop μ-loop) where
 
   queue : c .visit .result .calm ≡ true → Queue (cl h) a′ t′ (head + 1) top′
   queue e =
-      record { inside = inside-on M (head + 1) (omega (arith, below)) (λ k g u. I h .queue .inside k (omega (arith, g)) u); calmed = calmed e }
+      record { marked = marked-on M (head + 1) (omega (arith, below)) (λ k g u. I h .queue .marked k (omega (arith, g)) u); calmed = calmed e }
 
 add-head : tie.Need-add-head Inv-loop μ-loop
 add-head c = let A = c .before .before .before .before .before .before .before in record { fits = omega (arith, below A, room (h A), I (h A) .moved .long-t, z A .good .1 .1 .1 .1 .0 .0) }
@@ -161,7 +165,7 @@ loop-less c = let A = c .before .before .before .before .before .before .before 
 loop-again : tie.Need-loop-again Inv-loop μ-loop
 loop-again c =
     let A = c .before .before .before .before .before .before .before in
-    record { low = omega (arith, below A, M A .above); moved = moved A; queue = queue A (c .if1 .taken); mirrors = A .visit .ensures .1 }
+    record { low = omega (arith, below A, M A .above); moved = moved A; queue = queue A (c .if1 .taken); mirrors = A .visit .ensures .1; counts = A .visit .ensures .2 }
 
 same-length : tie.Need-same-length Inv-loop μ-loop
 same-length c = long-a (c .before .before .before .before .before .before .before)
@@ -175,7 +179,7 @@ same-length-3 c = long-t (c .before .before .before .before .before .before .bef
 returns : tie.Need-returns Inv-loop μ-loop
 returns c =
     let A = c .before .before .before .before .before .before .before in
-    (record { moved = moved A; silent = λ q. true-false (sym q ∙ c .if1 .left); failing = λ q. H A false (c .if1 .left) .failing refl }, A .visit .ensures .1)
+    (record { moved = moved A; silent = λ q. true-false (sym q ∙ c .if1 .left); failing = λ q. H A false (c .if1 .left) .failing refl }, A .visit .ensures .1, A .visit .ensures .2)
 
 same-length-4 : tie.Need-same-length-4 Inv-loop μ-loop
 same-length-4 c = I (c .before) .moved .long
@@ -195,10 +199,11 @@ returns-2 c =
         failing = λ q. true-false q;
       },
       I h .mirrors,
+      I h .counts,
     )
 
 pub follow-spec : {M : Type 1} → statement M
 follow-spec =
     tie.close
-    (tie.spec Inv-loop μ-loop loop-holds mul-x slice-read-x cast-x visit-requires add-head loop-less loop-again
+    (tie.spec Inv-loop μ-loop loop-holds mul-e slice-read-e cast-e visit-requires add-head loop-less loop-again
     same-length same-length-2 same-length-3 returns same-length-4 same-length-5 same-length-6 returns-2)

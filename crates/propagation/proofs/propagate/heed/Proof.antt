@@ -1,41 +1,42 @@
--- `search::propagate::heed` meets its contract: a quiet clause changes nothing, one that fails is the one that fails, and what is forced is a move.
+-- `propagation::propagate::heed` meets its contract: a quiet clause changes nothing, one that fails is the one that fails, and what is forced is a move.
 -- Assumes nothing.
 use mathlib.Core.Path.{_≡_, sym, ap, subst, _∙_}
 use mathlib.Core.Logic.{inl}
 use mathlib.Core.Bool.{true}
 use mathlib.Core.List.{List}
-use Prim.Native.Nat.{ℕ, _+_, _*_, _<_}
+use Prim.Native.Nat.{ℕ, _+_, _*_, _≤_, _<_}
 use native.Mathlib.Omega.{arith}
 use borrow.Author.Needs.{needs}
-use lib.ListN.{length, set}
-use lib.IntN.{ℤ}
+use lib.ListN.{length, getD, set}
+use lib.IntN.{ℤ, pos, natAbs}
 use Rattle.clauses.specs.Clause.{Clause, triples}
-use Rattle.clauses.proofs.Signs.{read}
+use Rattle.clauses.proofs.Signs.{read, again}
 use Rattle.ground.proofs.Tests.{true-false}
-use Rattle.search.specs.Search.{place, makeTrue, says, quiet, forces}
+use Rattle.search.specs.Search.{value, place, mark, makeTrue, says, quiet, forces}
+use Rattle.search.proofs.Clauses.{says-forces}
 use Rattle.search.specs.Models.{ClausesIn}
 use Rattle.propagation.specs.Judging.{Shown, clauseAt, told, Tells, Judges}
-use Rattle.propagation.specs.Trail.{firstBranch}
+use Rattle.propagation.specs.Trail.{entryFor}
 use Rattle.propagation.specs.Propagation.{Every, Heard}
 use Rattle.propagation.specs.declared.clause.Told.{Told}
 use Rattle.propagation.specs.declared.clause.Told.the-variants.{Quiet, Fails, Forces}
-use Rattle.propagation.proofs.Triples.{at, read-at, triples-in, shown-at, literal-at, clause-in}
+use Rattle.propagation.proofs.Triples.{triples-in, shown-at, literal-at, clause-in}
 use Rattle.propagation.proofs.Moves.{less, moved-none, moved-forced, forced-waits}
 use Rattle.propagation.proofs.propagate.heed.Statement.{statement}
 use Rattle.propagation.proofs.propagate.heed.Tie as tie
 
 clause-at-requires : tie.Need-clause-at-requires
-clause-at-requires c κs = c .before .before .before .pre .1
+clause-at-requires c κs = c .before .before .before .before .pre .2
 
 says-requires : tie.Need-says-requires
 says-requires c κs =
-    let s = c .before .before .before .before .before in
+    let s = c .before .before .before .before .before .before in
     (_, subst (λ (d : Clause). Shown d 1 (s .args .values .now) (s .args .truth .now)) (sym (c .before .clause-at .ensures)) (shown-at _ (s .pre .0 .1)))
 
 -- what the clause says
 module _ (c : tie.After-says) where
   abbrev s : tie.Start
-  s = c .before .before .before .before .before .before
+  s = c .before .before .before .before .before .before .before
 
   abbrev cl : List ℤ
   cl = s .args .clauses .now
@@ -53,7 +54,7 @@ module _ (c : tie.After-says) where
   shown = s .pre .0 .1
 
   member : Every cl d
-  member = clause-in cl (s .args .i) (s .pre .1)
+  member = clause-in cl (s .args .i) (s .pre .2)
 
   tells : (r : Told) → c .says .result ≡ r → Tells d r (says a d)
   tells r e =
@@ -83,6 +84,7 @@ returns c =
         failing = λ q. true-false q;
       },
       shown S .mirrors,
+      s S .pre .4,
     )
 
 same-length-2 : tie.Need-same-length-2
@@ -98,6 +100,7 @@ returns-2 c =
         failing = λ q. (d S, member S, sym (tells S Fails (c .enum-told2 .given .1) .is));
       },
       shown S .mirrors,
+      s S .pre .4,
     )
 
 -- the literal at k of the clause is forced
@@ -108,36 +111,30 @@ module _ (c : tie.After-known-told) where
   abbrev k : ℕ
   k = c .before .k .given .0 .0
 
-  abbrev p : ℕ
-  p = 3 * s S .args .i + k
-
   abbrev l : ℤ
-  l = at (cl S) p
+  l = getD (d S) k (pos 0)
 
   in-clause : k < 3
   in-clause = tells S (Forces k) (c .before .k .given .1) .at
 
-  p-in : p < length (cl S)
-  p-in = omega (arith, in-clause, s S .pre .1)
-
   forced : says (a S) (d S) ≡ forces l
   unfolding told
-  forced = sym (tells S (Forces k) (c .before .k .given .1) .is) ∙ ap forces (literal-at (cl S) (s S .args .i) k in-clause)
-
-  plain : read l ≡ l
-  plain = read-at (cl S) (length (a S)) (s S .pre .0 .0) (shown S .ready) p
+  forced = sym (tells S (Forces k) (c .before .k .given .1) .is)
 
   inside : ClausesIn (length (a S)) (triples (cl S))
   inside = triples-in (length (a S)) (cl S) (shown S .ready .range)
 
+  low : natAbs l ≤ length (a S)
+  low = subst (λ (y : ℤ). natAbs y ≤ length (a S)) (sym (literal-at (cl S) (s S .args .i) k in-clause)) (shown S .ready .range (3 * s S .args .i + k))
+
   room : s S .args .n < length (t S)
-  room = omega (arith, less (cl S) (s S .args .n) (a S) (t S) inside (d S) (member S) l forced, s S .pre .2)
+  room = omega (arith, less (cl S) (s S .args .n) (a S) (t S) inside (d S) (member S) l forced, s S .pre .3)
 
   -- and is then made true
-  forces-it : (a′ t′ : List ℕ) → a′ ≡ makeTrue (a S) l → t′ ≡ set (t S) (s S .args .n) (place l)
+  forces-it : (a′ t′ : List ℕ) → a′ ≡ makeTrue (a S) l → t′ ≡ set (t S) (s S .args .n) (entryFor (place l) (mark l))
       → Heard (cl S) (λ x. x ≡ d S) (s S .args .n) (a S) (t S) (s S .args .n + 1) a′ t′ true
   forces-it a′ t′ e f =
-      let small : length (a S) < firstBranch = omega (arith, shown S .ready .small) in
+      let small : length (a S) < 4096 = shown S .ready .small in
       rw (e, f)
       record {
         moved = moved-forced (cl S) (s S .args .n) (a S) (t S) inside (d S) (member S) l forced room small;
@@ -145,23 +142,34 @@ module _ (c : tie.After-known-told) where
         failing = λ q. true-false q;
       }
 
-mul-make-true : tie.Need-mul-make-true
-mul-make-true c = record { fits = omega (arith, p-in c, s (S c) .good .0 .1) }
+literal-at-requires : tie.Need-literal-at-requires
+literal-at-requires c κs =
+    (in-clause c, subst (λ (x : Clause). natAbs (getD x (k c) (pos 0)) < 4096) (sym (S c .before .before .clause-at .ensures)) (omega (arith, low c, shown (S c) .ready .small)))
 
-add-make-true : tie.Need-add-make-true
-add-make-true c = record { fits = omega (arith, p-in c, s (S c) .good .0 .1) }
+-- after it was read
+module _ (R : tie.After-literal-at) where
+  abbrev K : tie.After-known-told
+  K = R .before
 
-mul-make-true-2 : tie.Need-mul-make-true-2
-mul-make-true-2 c = record { fits = omega (arith, p-in c, s (S c) .good .0 .1) }
-
-shared-slice-copy-out-make-true : tie.Need-shared-slice-copy-out-make-true
-shared-slice-copy-out-make-true c = p-in c
+  plain : read (R .literal-at .result) ≡ l K
+  plain =
+      ap read (R .literal-at .ensures ∙ ap (λ (x : Clause). getD x (k K) (pos 0)) (S K .before .before .clause-at .ensures))
+      ∙ again (l K) (omega (arith, low K, shown (S K) .ready .small))
 
 make-true-requires : tie.Need-make-true-requires
-make-true-requires c κs = let k = c .before .before .before .before in (room k, shown (S k) .mirrors)
+make-true-requires c κs =
+    let R = c .before .before .before in
+    let k = K R in (
+      s (S k) .pre .0,
+      s (S k) .pre .1,
+      room k,
+      subst (λ (y : ℤ). natAbs y ≤ length (a (S k))) (sym (plain R)) (low k),
+      ap (value (a (S k))) (plain R) ∙ says-forces (a (S k)) (d (S k)) (l k) (forced k) .open-l,
+      s (S k) .pre .4,
+    )
 
-add-t14 : tie.Need-add-t14
-add-t14 c = search needs
+add-t23 : tie.Need-add-t23
+add-t23 c = search needs
 
 same-length-3 : tie.Need-same-length-3
 same-length-3 c = search needs
@@ -175,15 +183,16 @@ same-length-5 c = search needs
 returns-3 : tie.Need-returns-3
 returns-3 c =
     let M = c .before .before .before .before .before .before in
-    let K = M .before .before .before .before .before in (
-      forces-it K _ _ (M .make-true .ensures .0 ∙ ap (makeTrue (a (S K))) (plain K))
-          (M .make-true .ensures .1 ∙ ap (λ (x : ℤ). set (t (S K)) (s (S K) .args .n) (place x)) (plain K)),
+    let R = M .before .before .before .before in
+    let z = S (K R) in (
+      forces-it (K R) _ _ (M .make-true .ensures .0 ∙ ap (makeTrue (a z)) (plain R))
+          (M .make-true .ensures .1 ∙ ap (λ (x : ℤ). set (t z) (s z .args .n) (entryFor (place x) (mark x))) (plain R)),
       M .make-true .ensures .2,
+      M .make-true .ensures .3,
     )
 
 pub heed-spec : {M : Type 1} → statement M
 heed-spec =
     tie.close
-    (tie.spec clause-at-requires says-requires enum-told enum-told-2 enum-known-k
-    mul-make-true add-make-true mul-make-true-2 shared-slice-copy-out-make-true make-true-requires add-t14
+    (tie.spec clause-at-requires says-requires enum-told enum-told-2 enum-known-k literal-at-requires make-true-requires add-t23
     same-length returns same-length-2 returns-2 same-length-3 same-length-4 same-length-5 returns-3)

@@ -1,56 +1,43 @@
--- `search::trail::back` meets its contract. The invariant: from the k entries that are left, the same branches are pending as at the start, nothing below
--- `low` is unassigned, and of clauses that are linked all from `end` on are met. Assumes nothing.
-use mathlib.Core.Path.{_≡_, refl, sym, ap, _∙_}
-use mathlib.Core.List.{List}
-use Prim.Native.Nat.{ℕ, _+_, _-_, _≤_, _<_}
+-- `propagation::trail::back` meets its contract. The invariant: from the k entries that are left, the same branches are pending as at the start.
+-- Assumes nothing.
+use mathlib.Core.Path.{_≡_, refl, sym, ap, subst, _∙_}
+use mathlib.Core.List.{List, List·Memᴰ, List·Memᴰ·head}
+use Prim.Native.Nat.{ℕ, _+_, _-_, _*_, _≤_, _<_}
 use native.Mathlib.Omega.{arith}
 use lib.IntN.{ℤ}
 use lib.ListN.{length, getD, set, length-set}
-use mir.Facts.{fits-16-64, fits-sub}
-use Rattle.search.specs.Search.{zeros, lowest}
+use lib.Seq.{set-set, getD-set-same}
+use mir.Facts.{fits-16-64}
+use Rattle.search.specs.Search.{zeros}
 use Rattle.propagation.specs.Ready.{Ready}
-use Rattle.propagation.specs.Links.{Linked, reopened}
-use Rattle.propagation.specs.Judging.{Mirrors, Passed}
-use Rattle.propagation.specs.Trail.{firstBranch, pending, Resumed}
-use Rattle.search.proofs.Marks.{zeros-unset, zeros-made, lowest-made, lowest-undone}
-use Rattle.propagation.proofs.Pending.{pending-plain, pending-turned, second-noted}
-use Rattle.propagation.proofs.Passed.{passed-again}
+use Rattle.propagation.specs.Links.{Linked}
+use Rattle.propagation.specs.Judging.{Mirrors}
+use Rattle.propagation.specs.Unmet.{Counts}
+use Rattle.propagation.specs.Trail.{firstBranch, entryFor, plain, noted, Marked, Branch, branch, pending, Saved, Resumed}
+use Rattle.search.proofs.Marks.{zeros-unset, zeros-made}
+use Rattle.propagation.proofs.Marked.{given-mark}
+use Rattle.propagation.proofs.Pending.{pending-plain, pending-first, plain-last, pending-turned, second-noted}
 use Rattle.propagation.proofs.trail.back.Statement.{statement}
 use Rattle.propagation.proofs.trail.back.Tie as tie
 
--- of the clauses that L links, those from `end` on are met, if those from `span` on were at the start
-abbrev Still : List ℕ → List ℕ → ℕ → List ℕ → ℕ → Type 0
-Still L a₀ span a end = (cl : List ℤ) (many : ℕ) → Ready cl many (length a₀) → Linked cl (length a₀) (length cl) L → Passed cl a₀ span → Passed cl a end
-
-record Way (L a₀ t₀ : List ℕ) (n span : ℕ) (a w t : List ℕ) (k low end : ℕ) : Type 0 where
+record Way (a₀ t₀ : List ℕ) (n : ℕ) (a w t : List ℕ) (k : ℕ) : Type 0 where
   below : k ≤ n
   long : length a ≡ length a₀
   same : t ≡ t₀
   left : pending a t k ≡ pending a₀ t₀ n
   used : k + zeros a ≤ n + zeros a₀
-  none : low ≤ lowest a
-  still : Still L a₀ span a end
   mirrors : Mirrors a w
 
 abbrev Inv-loop : tie.InvT-loop
-Inv-loop L a₀ w₀ t₀ n from span v k₀ low₀ end₀ a w t k low end = Way L a₀ t₀ n span a w t k low end
+Inv-loop cl L a₀ w₀ t₀ sv n k₀ a w t k = Way a₀ t₀ n a w t k
 
 abbrev μ-loop : tie.MeasureT-loop
-μ-loop L a₀ w₀ t₀ n from span v k₀ low₀ end₀ a w t k low end = k
+μ-loop cl L a₀ w₀ t₀ sv n k₀ a w t k = k
 
 loop-holds : tie.Need-loop-holds Inv-loop μ-loop
 loop-holds c =
-    let p = c .before .before .before .before .pre in
-    record {
-      below = omega arith;
-      long = refl;
-      same = refl;
-      left = refl;
-      used = omega arith;
-      none = p .1;
-      still = λ cl many R K q. q;
-      mirrors = p .3;
-    }
+    let p = c .before .before .before .before .before .pre in
+    record { below = omega arith; long = refl; same = refl; left = refl; used = omega arith; mirrors = p .0 .1 .mirrors }
 
 -- in a turn: the entry looked at is in the trail
 module _ (c : tie.In-loop Inv-loop μ-loop) where
@@ -58,88 +45,45 @@ module _ (c : tie.In-loop Inv-loop μ-loop) where
   h = c .before
 
   abbrev s : tie.Start Inv-loop μ-loop
-  s = h .before .before .before .before .before
+  s = h .before .before .before .before .before .before
 
   abbrev k : ℕ
   k = h .loop .k
 
   in-trail : k - 1 < length (h .loop .trail)
-  in-trail = omega (arith, ap length (h .loop .inv .same), h .loop .inv .below, c .loop-test .taken, s .pre .0)
+  in-trail = omega (arith, ap length (h .loop .inv .same), h .loop .inv .below, c .loop-test .taken, s .pre .2)
+
+  in-memory : k - 1 < length (s .args .trail .now)
+  in-memory = omega (arith, in-trail, ap length (h .loop .inv .same))
 
   again-k : k - 1 + 1 ≡ k
   again-k = omega (arith, c .loop-test .taken)
-
-  -- a mark given to the variable at x
-  reopens : (x y r : ℕ) (a′ : List ℕ) → a′ ≡ set (h .loop .values) x y → r ≡ reopened (s .args .links .now) (length (s .args .values .now)) x (h .loop .end)
-      → Still (s .args .links .now) (s .args .values .now) (s .args .span) a′ r
-  reopens x y r a′ e f = λ cl many R K q.
-      rw (e, f) (passed-again cl (s .args .links .now) (length (s .args .values .now)) K x many (R .long) (h .loop .values) (h .loop .inv .long) y (h .loop .end) (h .loop .inv .still cl many R K q))
 
 sub-k : tie.Need-sub-k Inv-loop μ-loop
 sub-k c = omega arith
 
 mul-e : tie.Need-mul-e Inv-loop μ-loop
-mul-e c = record { fits = omega (arith, in-trail c, ap length (h c .loop .inv .same), s c .good .1 .1 .1 .0 .1) }
+mul-e c = record { fits = omega (arith, in-memory c, s c .good .1 .1 .1 .1 .0 .1) }
 
 slice-read-e : tie.Need-slice-read-e Inv-loop μ-loop
 slice-read-e c = in-trail (c .before)
 
 cast-put : tie.Need-cast-put Inv-loop μ-loop
-cast-put c = fits-16-64 (c .before .before .before .slice-known4 .given _)
+cast-put c = record { fits = omega arith }
 
 put-requires : tie.Need-put-requires Inv-loop μ-loop
-put-requires c κs = c .before .before .before .before .before .loop .inv .mirrors
+put-requires c κs = c .before .before .before .before .loop .inv .mirrors
 
-cast-lower : tie.Need-cast-lower Inv-loop μ-loop
-cast-lower c = fits-16-64 (c .before .before .before .before .before .before .before .before .slice-known4 .given _)
-
-lower-requires : tie.Need-lower-requires Inv-loop μ-loop
-lower-requires c κs = tt
-
-cast-reopened : tie.Need-cast-reopened Inv-loop μ-loop
-cast-reopened c = fits-16-64 (c .before .before .before .before .before .before .before .before .before .slice-known4 .given _)
-
-reopened-requires : tie.Need-reopened-requires Inv-loop μ-loop
-reopened-requires c κs = s (c .before .before .before .before .before .before .before .before .before .before) .pre .2
-
-loop-less : tie.Need-loop-less Inv-loop μ-loop
-loop-less c = omega (arith, c .before .before .before .before .before .before .before .before .before .before .before .loop-test .taken)
-
-loop-again : tie.Need-loop-again Inv-loop μ-loop
-loop-again c =
-    let M = c .before in
-    let P = c .before .before .before .before .before .before in
-    let I = P .before .before .before .before .before in
-    let g = h I .loop .inv in
-    let a = h I .loop .values in
-    let t = h I .loop .trail in
-    let e = getD t (k I - 1) 0 in
-    let undone = P .put .ensures .0 in
-    record {
-      below = omega (arith, g .below);
-      long = P .put .kept .0 ∙ g .long;
-      same = g .same;
-      left =
-          ap (λ (b : List ℕ). pending b t (k I - 1)) undone
-          ∙ sym (pending-plain a t (k I - 1) (P .before .before .before .if1 .taken))
-          ∙ ap (pending a t) (again-k I)
-          ∙ g .left;
-      used = omega (arith, ap zeros undone, zeros-unset a e, g .used, I .loop-test .taken);
-      none = omega (arith, ap lowest undone, lowest-undone a e (M .lower .result) (omega (arith, M .lower .ensures, g .none)) (omega (arith, M .lower .ensures)));
-      still = reopens I e 0 _ _ undone (c .reopened .ensures);
-      mirrors = P .put .ensures .1;
-    }
-
-cast-put-2 : tie.Need-cast-put-2 Inv-loop μ-loop
-cast-put-2 c = fits-sub firstBranch (fits-16-64 (c .before .before .before .slice-known4 .given _))
-
-put-requires-2 : tie.Need-put-requires-2 Inv-loop μ-loop
-put-requires-2 c κs = c .before .before .before .before .before .loop .inv .mirrors
-
--- at a first branch
-module _ (P : tie.After-put2 Inv-loop μ-loop) where
+-- what it has assigned is undone
+module _ (P : tie.After-put Inv-loop μ-loop) where
   abbrev I : tie.In-loop Inv-loop μ-loop
-  I = P .before .before .before .before .before
+  I = P .before .before .before .before
+
+  abbrev cl : List ℤ
+  cl = s I .args .clauses .now
+
+  abbrev sv : List ℕ
+  sv = s I .args .saved .now
 
   abbrev a : List ℕ
   a = h I .loop .values
@@ -147,63 +91,166 @@ module _ (P : tie.After-put2 Inv-loop μ-loop) where
   abbrev t : List ℕ
   t = h I .loop .trail
 
+  abbrev b : List ℕ
+  b = P .put .last .0
+
   abbrev i : ℕ
-  i = getD t (k I - 1) 0 - firstBranch
+  i = noted t (k I - 1)
 
-  in-memory : k I - 1 < length (s I .args .trail .now)
-  in-memory = omega (arith, in-trail I, ap length (h I .loop .inv .same))
+  undone : b ≡ set a i 0
+  undone = P .put .ensures .0
 
-  fits : getD t (k I - 1) 0 < 65536
-  fits = P .before .before .before .before .slice-known4 .given (k I - 1) .fits
+  long : length b ≡ length (s I .args .values .now)
+  long = P .put .kept .0 ∙ h I .loop .inv .long
 
-  resumed : (b : List ℕ) → b ≡ set a i 2 → Resumed (s I .args .n) (s I .args .values .now) (s I .args .trail .now) b (set t (k I - 1) i) (k I - 1 + 1) (h I .loop .low)
-  resumed b e =
+  goes-on : getD t (k I - 1) 0 < firstBranch
+      → Way (s I .args .values .now) (s I .args .trail .now) (s I .args .n) b (P .put .last .1 .0) t (k I - 1)
+  goes-on f =
       let g = h I .loop .inv in
-      rw e
       record {
-        is =
-            sym (g .left)
-            ∙ ap (pending a t) (sym (again-k I))
-            ∙ pending-turned a t i (k I - 1) (in-trail I) (P .before .before .before .if1 .left) fits refl;
-        marks = second-noted a t i (k I - 1) (in-trail I) (omega (arith, fits));
-        room = omega (arith, again-k I, g .used, zeros-made a i 1);
-        low = omega (arith, g .none, lowest-made a i 1);
+        below = omega (arith, g .below);
+        long = long;
+        same = g .same;
+        left =
+            ap (λ (y : List ℕ). pending y t (k I - 1)) undone
+            ∙ sym (pending-plain a t (k I - 1) f)
+            ∙ ap (pending a t) (again-k I)
+            ∙ g .left;
+        used = omega (arith, ap zeros undone, zeros-unset a i, g .used, I .loop-test .taken);
+        mirrors = P .put .ensures .1;
       }
 
+-- it was a first branch: the latest one pending, with the number of unmet clauses
+module _ (c : tie.Then1 Inv-loop μ-loop) where
+  abbrev P : tie.After-put Inv-loop μ-loop
+  P = c .before .before .before .before .before
+
+  first : firstBranch ≤ getD (t P) (k (I P) - 1) 0
+  first = c .if1 .taken
+
+  abbrev d : Branch
+  d = branch (k (I P) - 1) (i P) (set (a P) (i P) 0)
+
+  latest : List·Memᴰ d (pending (s (I P) .args .values .now) (s (I P) .args .trail .now) (s (I P) .args .n))
+  latest =
+      subst (λ (Q : List Branch). List·Memᴰ d Q)
+      (sym (pending-first (a P) (t P) (k (I P) - 1) first) ∙ ap (pending (a P) (t P)) (again-k (I P)) ∙ h (I P) .loop .inv .left)
+      (List·Memᴰ·head refl)
+
+  saved : Saved (cl P) (sv P) d
+  saved = s (I P) .pre .4 d latest
+
+  in-values : i P < length (b P)
+  in-values = omega (arith, saved .0, ap length (undone P))
+
+  unset : getD (b P) (i P) 0 ≡ 0
+  unset = ap (λ (y : List ℕ). getD y (i P) 0) (undone P) ∙ getD-set-same (a P) (i P) 0 0 (omega (arith, saved .0, length-set (a P) (i P) 0))
+
+  counts : Counts (cl P) (b P) (getD (sv P) (k (I P) - 1) 0)
+  counts = subst (λ (y : List ℕ). Counts (cl P) y (getD (sv P) (k (I P) - 1) 0)) (sym (undone P)) (saved .1)
+
+  in-saved : k (I P) - 1 < length (sv P)
+  in-saved = omega (arith, h (I P) .loop .inv .below, I P .loop-test .taken, s (I P) .pre .3)
+
+  told : Marked (set (a P) (i P) 2) (plain (set (t P) (k (I P) - 1) (2 * i P + 1)) (k (I P) - 1 + 1 - 1))
+  told =
+      let e : plain (set (t P) (k (I P) - 1) (2 * i P + 1)) (k (I P) - 1 + 1 - 1) ≡ entryFor (i P) 2 =
+      omega (arith, plain-last (t P) (k (I P) - 1) (2 * i P + 1) (in-trail (I P))) in
+      subst (λ (y : ℕ). Marked (set (a P) (i P) 2) y) (sym e)
+      (given-mark (a P) (i P) 2 (omega (arith, saved .0, length-set (a P) (i P) 0)) (omega arith) (omega arith))
+
+  resumed : (b′ t′ : List ℕ) (u : ℕ) → b′ ≡ set (b P) (i P) 2 → t′ ≡ set (t P) (k (I P) - 1) (2 * i P + 1) → Counts (cl P) b′ u
+      → Resumed (cl P) (s (I P) .args .n) (s (I P) .args .values .now) (s (I P) .args .trail .now) b′ t′ (k (I P) - 1 + 1) u
+  resumed b′ t′ u e f q =
+      let g = h (I P) .loop .inv in
+      let again : b′ ≡ set (a P) (i P) 2 = e ∙ ap (λ (y : List ℕ). set y (i P) 2) (undone P) ∙ set-set (a P) (i P) 0 2 in
+      rw (again, f)
+      record {
+        is = sym (g .left) ∙ ap (pending (a P) (t P)) (sym (again-k (I P))) ∙ pending-turned (a P) (t P) (i P) (k (I P) - 1) (in-trail (I P)) first refl;
+        told = told;
+        marks = second-noted (a P) (t P) (i P) (k (I P) - 1) (in-trail (I P)) first refl;
+        room = omega (arith, again-k (I P), g .used, zeros-made (a P) (i P) 1);
+        counts = subst (λ (y : List ℕ). Counts (cl P) y u) again q;
+      }
+
+cast-entry : tie.Need-cast-entry Inv-loop μ-loop
+cast-entry c = record { fits = omega arith }
+
+entry-requires : tie.Need-entry-requires Inv-loop μ-loop
+entry-requires c κs = (omega arith, omega arith, omega arith)
+
+-- the entry of the second
+module _ (E : tie.After-entry Inv-loop μ-loop) where
+  abbrev F : tie.Then1 Inv-loop μ-loop
+  F = E .before
+
+  abbrev J : tie.In-loop Inv-loop μ-loop
+  J = I (P F)
+
+  entry-is : E .entry .result ≡ 2 * i (P F) + 1
+  entry-is = E .entry .ensures ∙ omega arith
+
 mul-trail : tie.Need-mul-trail Inv-loop μ-loop
-mul-trail c = let P = c .before .before .before .before in record { fits = omega (arith, in-memory P, s (I P) .good .1 .1 .1 .0 .1) }
+mul-trail c = record { fits = omega (arith, in-memory (J c), s (J c) .good .1 .1 .1 .1 .0 .1) }
 
 slice-write-trail : tie.Need-slice-write-trail Inv-loop μ-loop
-slice-write-trail c = in-trail (I (c .before .before .before .before))
+slice-write-trail c = in-trail (J c)
 
-add-t29 : tie.Need-add-t29 Inv-loop μ-loop
-add-t29 c = let P = c .before .before .before .before in record { fits = omega (arith, in-memory P, s (I P) .good .1 .1 .1 .0 .1) }
+mul-was : tie.Need-mul-was Inv-loop μ-loop
+mul-was c = record { fits = omega (arith, in-saved (F c), s (J c) .good .1 .1 .1 .1 .1 .0 .1) }
 
-cast-reopened-2 : tie.Need-cast-reopened-2 Inv-loop μ-loop
-cast-reopened-2 c = fits-sub firstBranch (fits-16-64 (c .before .before .before .before .before .before .before .before .slice-known4 .given _))
+shared-slice-read-was : tie.Need-shared-slice-read-was Inv-loop μ-loop
+shared-slice-read-was c = in-saved (F (c .before))
 
-reopened-requires-2 : tie.Need-reopened-requires-2 Inv-loop μ-loop
-reopened-requires-2 c κs = s (I (c .before .before .before .before)) .pre .2
+cast-was : tie.Need-cast-was Inv-loop μ-loop
+cast-was c = fits-16-64 (c .shared-slice-known3 .given _)
+
+cast-assign : tie.Need-cast-assign Inv-loop μ-loop
+cast-assign c = record { fits = omega arith }
+
+assign-requires : tie.Need-assign-requires Inv-loop μ-loop
+assign-requires c κs =
+    let C = F (c .before .before .before) in
+    let p = P C in
+    let z = s (I p) in (
+      (_, record { ready = subst (λ (v : ℕ). Ready (cl p) (z .pre .0 .0) v) (sym (long p)) (z .pre .0 .1 .ready); mirrors = p .put .ensures .1 }),
+      subst (λ (v : ℕ). Linked (cl p) v (length (cl p)) (z .args .links .now)) (sym (long p)) (z .pre .1),
+      in-values C,
+      unset C,
+      omega arith,
+      omega arith,
+      counts C,
+    )
+
+add-t23 : tie.Need-add-t23 Inv-loop μ-loop
+add-t23 c = let I = J (c .before .before .before .before .before .before .before .before) in record { fits = omega (arith, in-memory I, s I .good .1 .1 .1 .1 .0 .1) }
 
 same-length : tie.Need-same-length Inv-loop μ-loop
-same-length c = let P = c .before .before .before .before .before in P .put2 .kept .0 ∙ h (I P) .loop .inv .long
+same-length c = let A = c .before .before .before .before in A .assign .kept .1 .1 .0 ∙ long (P (F (c .before .before .before .before .before .before .before .before)))
 
 same-length-2 : tie.Need-same-length-2 Inv-loop μ-loop
-same-length-2 c = let P = c .before .before .before .before .before in P .put2 .ensures .1 .size ∙ sym (s (I P) .pre .3 .size)
+same-length-2 c = let A = c .before .before .before .before in A .assign .ensures .1 .size ∙ sym (s (J (c .before .before .before .before .before .before .before .before)) .pre .0 .1 .mirrors .size)
 
 same-length-3 : tie.Need-same-length-3 Inv-loop μ-loop
-same-length-3 c = let P = c .before .before .before .before .before in length-set (t P) (k (I P) - 1) (i P) ∙ ap length (h (I P) .loop .inv .same)
+same-length-3 c = let E = c .before .before .before .before .before .before .before .before in length-set (t (P (F E))) (k (J E) - 1) (E .entry .result) ∙ ap length (h (J E) .loop .inv .same)
 
 returns : tie.Need-returns Inv-loop μ-loop
 returns c =
-    let P = c .before .before .before .before .before in
-    (resumed P _ (P .put2 .ensures .0), reopens (I P) (i P) 2 _ _ (P .put2 .ensures .0) (c .reopened2 .ensures), P .put2 .ensures .1)
+    let A = c .before .before .before .before in
+    let E = c .before .before .before .before .before .before .before .before in
+    (resumed (F E) _ _ _ (A .assign .ensures .0) (ap (set (t (P (F E))) (k (J E) - 1)) (entry-is E)) (A .assign .ensures .2), A .assign .ensures .1)
+
+loop-less : tie.Need-loop-less Inv-loop μ-loop
+loop-less c = omega (arith, I (c .before .before .before .before .before) .loop-test .taken)
+
+loop-again : tie.Need-loop-again Inv-loop μ-loop
+loop-again c = goes-on (c .before .before .before .before .before) (omega (arith, c .if1 .left))
 
 same-length-4 : tie.Need-same-length-4 Inv-loop μ-loop
 same-length-4 c = c .before .loop .inv .long
 
 same-length-5 : tie.Need-same-length-5 Inv-loop μ-loop
-same-length-5 c = c .before .loop .inv .mirrors .size ∙ sym (c .before .before .before .before .before .before .pre .3 .size)
+same-length-5 c = c .before .loop .inv .mirrors .size ∙ sym (c .before .before .before .before .before .before .before .pre .0 .1 .mirrors .size)
 
 same-length-6 : tie.Need-same-length-6 Inv-loop μ-loop
 same-length-6 c = ap length (c .before .loop .inv .same)
@@ -213,11 +260,11 @@ unfolding pending
 returns-2 c =
     let g = c .before .loop .inv in
     let z : c .before .loop .k ≡ 0 = omega arith in
-    (sym (g .left) ∙ ap (pending (c .before .loop .values) (c .before .loop .trail)) z, tt, g .mirrors)
+    (sym (g .left) ∙ ap (pending (c .before .loop .values) (c .before .loop .trail)) z, g .mirrors)
 
 pub back-spec : {M : Type 1} → statement M
 back-spec =
     tie.close
-    (tie.spec Inv-loop μ-loop loop-holds sub-k mul-e slice-read-e cast-put put-requires cast-lower lower-requires cast-reopened reopened-requires loop-less loop-again
-    cast-put-2 put-requires-2 mul-trail slice-write-trail add-t29 cast-reopened-2 reopened-requires-2
-    same-length same-length-2 same-length-3 returns same-length-4 same-length-5 same-length-6 returns-2)
+    (tie.spec Inv-loop μ-loop loop-holds sub-k mul-e slice-read-e cast-put put-requires cast-entry entry-requires mul-trail slice-write-trail
+    mul-was shared-slice-read-was cast-was cast-assign assign-requires add-t23 same-length same-length-2 same-length-3 returns loop-less loop-again
+    same-length-4 same-length-5 same-length-6 returns-2)
