@@ -1,5 +1,5 @@
 -- Document 01, "The search", as the code reads clauses: off a table of truths, by weights. What the functions inside the crate promise one another, in the
--- words of `Search`; nothing outside the crate cites this. Assumes nothing.
+-- words of `Search`; only `branching` cites this besides. Assumes nothing.
 use mathlib.Core.Path.{_≡_}
 use mathlib.Core.Bool.{Bool, cond}
 use mathlib.Core.List.{List, [], _∷_}

@@ -1,5 +1,5 @@
 -- Document 01, "The search", propagation with the trail as a queue: what has been assigned is reached by some sequence of forcings, and every clause that
--- could fail or force holds a variable that is still to be visited. Nothing outside the crate cites this. Assumes nothing.
+-- could fail or force holds a variable that is still to be visited. Only `branching` cites this besides. Assumes nothing.
 use mathlib.Core.Path.{_≡_}
 use mathlib.Core.Bool.{Bool, true, false}
 use mathlib.Core.Logic.{_⊎_}

@@ -1,5 +1,5 @@
 -- Document 01, "The search", as one loop with a trail does it: which variables were assigned, in order, which branches are still to be made, with how many
--- unmet clauses, and going back to them. Nothing outside the crate cites this. Assumes nothing.
+-- unmet clauses, and going back to them. Only `branching` cites this besides. Assumes nothing.
 use mathlib.Core.Path.{_≡_}
 use mathlib.Core.Bool.{cond}
 use mathlib.Core.List.{List, [], _∷_, List·Memᴰ}

@@ -1,4 +1,4 @@
--- `search::clause::judge` meets its contract: each return by the tests that led there. Assumes nothing.
+-- `propagation::clause::judge` meets its contract: each return by the tests that led there. Assumes nothing.
 use mathlib.Core.Path.{_≡_, sym, ap, _∙_}
 use Prim.Native.Nat.{ℕ, _+_, _≤_}
 use mathlib.Core.Bool.{Bool, true, false, cond}

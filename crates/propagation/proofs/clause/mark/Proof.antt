@@ -1,4 +1,4 @@
--- `search::clause::mark` meets its contract. Assumes nothing.
+-- `propagation::clause::mark` meets its contract. Assumes nothing.
 use mathlib.Core.Path.{ap, _∙_}
 use mir.Facts.{toZ-ofZ}
 use Rattle.clauses.proofs.Signs.{read}

@@ -1,4 +1,4 @@
--- `search::clause::met` meets its contract: only a true literal brings the sum of the weights to 4. Assumes nothing.
+-- `propagation::clause::met` meets its contract: only a true literal brings the sum of the weights to 4. Assumes nothing.
 use mathlib.Core.Path.{ap, _∙_}
 use mathlib.Core.List.{List}
 use Prim.Native.Nat.{ℕ, _+_, _≤_}

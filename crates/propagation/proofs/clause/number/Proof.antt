@@ -1,4 +1,4 @@
--- `search::clause::number` meets its contract. Assumes nothing.
+-- `propagation::clause::number` meets its contract. Assumes nothing.
 use mathlib.Core.Path.{_≡_, sym, ap, _∙_}
 use native.Mathlib.Omega.{arith}
 use borrow.Author.Needs.{needs}

@@ -1,4 +1,4 @@
--- `search::clause::place` meets its contract: above 0 the place is one less, below 0 it is -1 - l. Assumes nothing.
+-- `propagation::clause::place` meets its contract: above 0 the place is one less, below 0 it is -1 - l. Assumes nothing.
 use mathlib.Core.Path.{_≡_, sym, ap, subst, _∙_}
 use native.Mathlib.Omega.{arith}
 use lib.Dec.{T}

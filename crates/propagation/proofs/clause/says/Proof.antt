@@ -1,4 +1,4 @@
--- `search::clause::says` meets its contract: it judges by the weights of the literals and by which of them are the same. Assumes nothing.
+-- `propagation::clause::says` meets its contract: it judges by the weights of the literals and by which of them are the same. Assumes nothing.
 use mathlib.Core.Path.{_≡_, sym, ap, subst, _∙_}
 use mathlib.Core.List.{List}
 use Prim.Native.Nat.{ℕ}

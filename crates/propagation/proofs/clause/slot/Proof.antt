@@ -1,4 +1,4 @@
--- `search::clause::slot` meets its contract: 4,096 more than the literal is its slot. Assumes nothing.
+-- `propagation::clause::slot` meets its contract: 4,096 more than the literal is its slot. Assumes nothing.
 use mathlib.Core.Path.{_≡_, sym, ap, subst, _∙_}
 use native.Mathlib.Omega.{arith}
 use lib.Dec.{T}

@@ -1,4 +1,4 @@
--- `search::clause::turned` meets its contract. Assumes nothing.
+-- `propagation::clause::turned` meets its contract. Assumes nothing.
 use mathlib.Core.Path.{_≡_, refl, sym, ap}
 use Prim.Native.Nat.{ℕ, zero, suc}
 use Rattle.search.specs.Search.{turned}

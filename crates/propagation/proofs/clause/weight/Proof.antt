@@ -1,4 +1,4 @@
--- `search::clause::weight` meets its contract. Assumes nothing.
+-- `propagation::clause::weight` meets its contract. Assumes nothing.
 use mathlib.Core.Path.{_≡_, refl, sym, ap}
 use Prim.Native.Nat.{ℕ, zero, suc}
 use Rattle.propagation.specs.Judging.{weight}

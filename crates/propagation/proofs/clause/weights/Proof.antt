@@ -1,4 +1,4 @@
--- `search::clause::weights` meets its contract: the literals have slots in the table, and it has their weights there. Assumes nothing.
+-- `propagation::clause::weights` meets its contract: the literals have slots in the table, and it has their weights there. Assumes nothing.
 use mathlib.Core.Path.{_≡_, ap, _∙_}
 use mathlib.Core.List.{List}
 use Prim.Native.Nat.{ℕ, _<_}

@@ -1,4 +1,4 @@
--- `search::trail::put` meets its contract: both slots of the variable are written, and `set` out of range changes nothing. Assumes nothing.
+-- `propagation::trail::put` meets its contract: both slots of the variable are written, and `set` out of range changes nothing. Assumes nothing.
 use mathlib.Core.Path.{refl, sym, ap, _∙_}
 use native.Mathlib.Omega.{arith}
 use borrow.Author.Needs.{needs}
