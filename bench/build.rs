@@ -1,5 +1,5 @@
 //! Links libsolve.a, beside the libhost.a that `differential` links: from the folder in
-//! RULEBOOK_LIB, or from ../target/staticlib, where `rt staticlib solve` writes it.
+//! RULEBOOK_LIB, or from ../target/staticlib, where `tools/build.sh library solve` writes it.
 
 use std::env;
 use std::path::PathBuf;
@@ -13,7 +13,7 @@ fn main() {
     let library = folder.join("libsolve.a");
     println!("cargo:rerun-if-changed={}", library.display());
     if !library.is_file() {
-        eprintln!("no {}: run `rt staticlib solve`, or set RULEBOOK_LIB", library.display());
+        eprintln!("no {}: run `tools/build.sh library solve`, or set RULEBOOK_LIB", library.display());
         std::process::exit(1);
     }
     let folder = folder.canonicalize().expect("it has the library");

@@ -10,7 +10,7 @@ top=$(cd "$(dirname "$0")/.." && pwd)
 ruletext=$top/target/rust/release/ruletext
 if [ ! -x "$top/target/bin/rulecheck" ]; then
     echo "proving and building the program, some minutes .." >&2
-    (cd "$top" && rt check rulecheck) >"${TMPDIR:-/tmp}/rulecheck.log" 2>&1 || {
+    "$top/tools/build.sh" program rulecheck >"${TMPDIR:-/tmp}/rulecheck.log" 2>&1 || {
         tail "${TMPDIR:-/tmp}/rulecheck.log" >&2
         exit 1
     }

@@ -8,7 +8,7 @@ lines() {
 }
 echo '| crate | code | specs | proofs | must-fail edits |'
 echo '|---|---|---|---|---|'
-cut -d: -f1 crates.txt | while read -r name; do
+sed 's/[ :].*//' crates.txt | while read -r name; do
     crate=crates/$name
     edits=0
     if [ -d "$crate/must-fail" ]; then edits=$(find "$crate/must-fail" -name '*.edit' | wc -l); fi

@@ -1,5 +1,5 @@
 //! Links libhost.a: from the folder in RULEBOOK_LIB, or from ../../target/staticlib, where
-//! `rt staticlib host` writes it.
+//! `tools/build.sh library host` writes it.
 
 use std::env;
 use std::path::PathBuf;
@@ -14,7 +14,7 @@ fn main() {
     let library = folder.join("libhost.a");
     println!("cargo:rerun-if-changed={}", library.display());
     if !library.is_file() {
-        eprintln!("no {}: run `rt staticlib host`, or set RULEBOOK_LIB", library.display());
+        eprintln!("no {}: run `tools/build.sh library host`, or set RULEBOOK_LIB", library.display());
         std::process::exit(1);
     }
     let folder = folder.canonicalize().expect("it has the library");

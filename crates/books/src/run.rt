@@ -1,40 +1,40 @@
 // One book, checked within several budgets.
 use checker::Answer;
 use encoding::Build;
-use libc::STDOUT_FILENO;
+use std::io;
 
 const BUDGET: u32 = 1000000;
 
 // The answer at the program's budget; and if that finished, the answers at 0, C − 1, C, C + 1 and 2^32 − 1.
-pub fn tries(book: &[u8]) {
-    let a = once(book, BUDGET);
+pub fn tries(rt: &impl Print, book: &[u8]) -> io::Result<()> {
+    let a = once(rt, book, BUDGET)?;
     match a {
-        Answer::Yes(_, c) => around(book, c),
-        Answer::No(_, c) => around(book, c),
-        Answer::Stopped(_, _) => end(),
-        Answer::Lent => end(),
-        Answer::Short => end(),
-        Answer::Ranges => end(),
-        Answer::Extent => end(),
-        Answer::Node(_) => end(),
-        Answer::Oversized => end(),
+        Answer::Yes(_, c) => around(rt, book, c),
+        Answer::No(_, c) => around(rt, book, c),
+        Answer::Stopped(_, _) => end(rt),
+        Answer::Lent => end(rt),
+        Answer::Short => end(rt),
+        Answer::Ranges => end(rt),
+        Answer::Extent => end(rt),
+        Answer::Node(_) => end(rt),
+        Answer::Oversized => end(rt),
     }
 }
 
-fn around(book: &[u8], c: u32) {
-    once(book, 0);
+fn around(rt: &impl Print, book: &[u8], c: u32) -> io::Result<()> {
+    once(rt, book, 0)?;
     if 0 < c {
-        once(book, c - 1);
+        once(rt, book, c - 1)?;
     }
-    once(book, c);
+    once(rt, book, c)?;
     if c < u32::MAX {
-        once(book, c + 1);
+        once(rt, book, c + 1)?;
     }
-    once(book, u32::MAX);
-    end();
+    once(rt, book, u32::MAX)?;
+    end(rt)
 }
 
-fn once(book: &[u8], budget: u32) -> Answer {
+fn once(rt: &impl Print, book: &[u8], budget: u32) -> io::Result<Answer> {
     let mut states = [0u16; 3 * Build::STATES];
     let mut words = [0u32; Build::VARIABLES];
     let mut clauses = [0i16; 3 * Build::CLAUSES];
@@ -49,28 +49,34 @@ fn once(book: &[u8], budget: u32) -> Answer {
         &mut values,
         &mut work,
     );
-    io::write_all(STDOUT_FILENO, b"\n  within");
-    put(budget as u64);
-    io::write_all(STDOUT_FILENO, b":");
-    tell(a);
+    print!(rt; "\n  within {budget}:")?;
+    tell(rt, a)?;
     if let Answer::Yes(b, _) = a {
-        evaluate(book, b, &states, &words, &values);
+        evaluate(rt, book, b, &states, &words, &values)?;
     }
-    a
+    Ok(a)
 }
 
 // "number, place, totals, count"
-fn tell(a: Answer) {
+fn tell(rt: &impl Print, a: Answer) -> io::Result<()> {
     let t = checker::totals(a);
-    put(checker::number(a) as u64);
-    put(checker::place(a) as u64);
-    put(t.states as u64);
-    put(t.variables as u64);
-    put(t.clauses as u64);
-    put(checker::count(a) as u64);
+    let number = checker::number(a);
+    let place = checker::place(a);
+    let states = t.states;
+    let variables = t.variables;
+    let clauses = t.clauses;
+    let count = checker::count(a);
+    print!(rt; " {number} {place} {states} {variables} {clauses} {count}")
 }
 
-fn evaluate(book: &[u8], b: Build, states: &[u16], words: &[u32], values: &[u8]) {
+fn evaluate(
+    rt: &impl Print,
+    book: &[u8],
+    b: Build,
+    states: &[u16],
+    words: &[u32],
+    values: &[u8],
+) -> io::Result<()> {
     let mut work = [0u8; evaluation::WORK];
     match evaluation::evaluate(
         book,
@@ -81,25 +87,16 @@ fn evaluate(book: &[u8], b: Build, states: &[u16], words: &[u32], values: &[u8])
         values,
         &mut work,
     ) {
-        structure::Evaluation::True => say(b" true"),
-        structure::Evaluation::False => say(b" false"),
-        structure::Evaluation::Lent => say(b" not evaluated"),
-        structure::Evaluation::Short => say(b" not evaluated"),
-        structure::Evaluation::Ranges => say(b" not evaluated"),
-        structure::Evaluation::Extent => say(b" not evaluated"),
-        structure::Evaluation::Node(_) => say(b" not evaluated"),
+        structure::Evaluation::True => print!(rt; " true"),
+        structure::Evaluation::False => print!(rt; " false"),
+        structure::Evaluation::Lent => print!(rt; " not evaluated"),
+        structure::Evaluation::Short => print!(rt; " not evaluated"),
+        structure::Evaluation::Ranges => print!(rt; " not evaluated"),
+        structure::Evaluation::Extent => print!(rt; " not evaluated"),
+        structure::Evaluation::Node(_) => print!(rt; " not evaluated"),
     }
 }
 
-fn say(text: &[u8]) {
-    io::write_all(STDOUT_FILENO, text);
-}
-
-fn put(n: u64) {
-    io::write_all(STDOUT_FILENO, b" ");
-    io::print_decimal(STDOUT_FILENO, n);
-}
-
-fn end() {
-    io::write_all(STDOUT_FILENO, b"\n");
+fn end(rt: &impl Print) -> io::Result<()> {
+    println!(rt)
 }

@@ -1,5 +1,7 @@
 // Document 01, "The search", over lent buffers: the clauses, a value for each variable, and working space. It is one loop over the nodes,
 // so its stack does not grow with the depth of the tree.
+#![tactic(auto)]
+
 mod branch;
 
 ghost use Rattle.std.specs.Prelude.{◌≡◌, map, ◌%◌, ◌≤◌, length};
@@ -12,7 +14,7 @@ use ground::{clear_u8, clear_u16};
 use propagation::link;
 
 // The answer, with its count: the nodes entered up to the verdict, or the budget.
-#[derive(Drop)]
+#[derive(Clone, Copy)]
 pub enum Outcome {
     Yes(u32),
     No(u32),

@@ -1,4 +1,6 @@
 // Document 01, "The build", over lent buffers: state records, variable words and clauses, filled by one pass over the states.
+#![tactic(auto)]
+
 mod phases;
 mod states;
 
@@ -15,7 +17,7 @@ use ground::{clear_i16, clear_u16, clear_u32};
 use states::run;
 
 // The build stands in the buffers, with these totals; or it is over a limit (15).
-#[derive(Drop)]
+#[derive(Clone, Copy)]
 pub enum Built {
     Whole(Build),
     Over,

@@ -13,7 +13,7 @@ use Rattle.branching.specs.Answered as search
 use Rattle.branching.specs.Answered.{Answered}
 use Rattle.branching.specs.declared.Outcome.{Outcome}
 use Rattle.branching.specs.declared.Outcome.TheVariants as o
-use Rattle.meaning.specs.Answers.{Answer, verdict}
+use Rattle.meaning.specs.Answers.{verdict}
 use Rattle.checker.specs.Checked.{ended, told}
 use Rattle.checker.specs.Steps.{run_of, decided, space, Decided, Searchable}
 use Rattle.checker.specs.declared.Answer as code

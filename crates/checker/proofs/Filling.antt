@@ -1,5 +1,5 @@
 -- From what the build and the search leave in the buffers to what the definition says that they hold. Assumes nothing.
-use Prim.Native.Nat.{ℕ, ◌+◌, ◌*◌}
+use Prim.Native.Nat.{ℕ, ◌*◌}
 use native.Mathlib.Omega.{arith}
 use mathlib.Core.Path.{◌≡◌, refl, sym, ap, ◌∙◌, subst}
 use mathlib.Core.Bool.{Bool, true, false, cond}
@@ -21,7 +21,7 @@ use Rattle.build.specs.Filled.{Filled, built_of, totals}
 use Rattle.build.specs.declared.Built.{Built}
 use Rattle.build.specs.declared.Built.TheVariants.{Whole, Over}
 use Rattle.search.specs.Search.{run, left}
-use Rattle.meaning.specs.Answers.{Answer, refusal, searched, judged}
+use Rattle.meaning.specs.Answers.{refusal, searched, judged}
 use Rattle.checker.specs.Checked.{max_work, Lent, lent, enough, holding, leaving, finished, told}
 use Rattle.checker.specs.Steps.{Fit, run_of, decided, space, Decided, Searchable}
 use Rattle.checker.specs.declared.Answer as code

@@ -24,7 +24,7 @@ use Rattle.structure.proofs.Recorded.{lies-filled}
 use Rattle.meaning.specs.Answers.{Answer, refusal, answer, answered, answer_to, searched, shown, judged, verdict, C}
 use Rattle.meaning.proofs.Results as results
 use Rattle.meaning.proofs.Judging.{answer-is}
-use Rattle.checker.specs.Checked.{max_work, Lent, lent, enough, emptied, holding, Outcome, leaving, finished, on_book, checked, told}
+use Rattle.checker.specs.Checked.{max_work, Lent, enough, emptied, holding, Outcome, leaving, finished, on_book, checked, told}
 use Rattle.checker.specs.Meant.{found, Meant, Promised}
 use Rattle.checker.specs.declared.Answer as code
 

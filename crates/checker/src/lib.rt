@@ -1,4 +1,6 @@
 // The whole check over lent buffers: the order of the refusals, and what each answer leaves.
+#![tactic(auto)]
+
 mod numbers;
 
 ghost use Rattle.std.specs.Prelude.{◌≡◌, true};
@@ -19,7 +21,7 @@ pub use numbers::{count, number, place, totals};
 // The numbers of working space that a check is lent: the search's for as many variables and clauses as a build may have.
 pub const WORK: usize = 2 * Build::VARIABLES + 1 + 3 * Build::CLAUSES;
 
-#[derive(Drop)]
+#[derive(Clone, Copy)]
 pub enum Answer {
     Yes(Build, u32),
     No(Build, u32),

@@ -18,7 +18,7 @@ use Rattle.book.specs.Told.{Ruled, Sound}
 use Rattle.book.proofs.Accepted.{sound-below}
 use Rattle.encoding.specs.Build.{Record}
 use Rattle.encoding.specs.Limits.{max_states}
-use Rattle.structure.specs.Structure.{lives, edge, read_back}
+use Rattle.structure.specs.Structure.{edge, read_back}
 use Rattle.structure.specs.Evaluation.{records_in, max_atoms}
 use Rattle.structure.specs.Marks.{on}
 use Rattle.structure.specs.Rows.{Elsewhere, Written, Scattered, reached, atom_row, put_in}

@@ -1,4 +1,6 @@
 // Document 01, "The structure": the separate check that evaluates a book on the structure read back. Nothing is asked of what the buffers hold.
+#![tactic(auto)]
+
 mod nodes;
 mod rows;
 

@@ -67,9 +67,11 @@ module _ (t : List State) where
     left_taken = rw fit_taken refl
 
     -- the promise, of what `gather` leaves and of what `evaluate_numbers` says
-    pub judges : (xs : List ℕ) (work' : List ℕ) (r : ℕ) → xs ≡ filled 0 (3 * m) (numbers_of t) (replicate (3 * max_states) 0)
-        → Judged bs (take (3 * m) xs) n ws v vs work work' r → Judged bs (numbers_of t) n ws v vs work work' r
-    judges xs work' r e says =
-        let same : take (3 * m) xs ≡ numbers_of (take m t) = ap (take (3 * m)) e ∙ gathered_numbers m t (replicate (3 * max_states) 0) (most_read (length t)).0 in
+    pub judges : (k : ℕ) (xs : List ℕ) (work' : List ℕ) (r : ℕ) → k ≡ m → xs ≡ filled 0 (3 * k) (numbers_of t) (replicate (3 * max_states) 0)
+        → Judged bs (take (3 * k) xs) n ws v vs work work' r → Judged bs (numbers_of t) n ws v vs work work' r
+    judges k xs work' r is e says =
+        let size : take (3 * k) xs ≡ take (3 * m) xs = ap (λ (j : ℕ). take (3 * j) xs) is in
+        let full : xs ≡ filled 0 (3 * m) (numbers_of t) (replicate (3 * max_states) 0) = e ∙ ap (λ (j : ℕ). filled 0 (3 * j) (numbers_of t) (replicate (3 * max_states) 0)) is in
+        let same : take (3 * k) xs ≡ numbers_of (take m t) = size ∙ ap (take (3 * m)) full ∙ gathered_numbers m t (replicate (3 * max_states) 0) (most_read (length t)).0 in
         let j = subst (λ (st : List ℕ). Judged bs st n ws v vs work work' r) same says in
         record { number = rw judged_taken at j.number; leaves = rw left_taken at j.leaves }

@@ -1,6 +1,5 @@
-pub mod Fields
-pub mod Numbered
 pub mod Tabled
+pub mod Fields
 pub mod Gathered
-pub mod OwnNumbers
+pub mod Numbered
 pub mod Single

@@ -1,4 +1,6 @@
-// The check for hosts written in C: include/rulebook.h has these calls, with their numbers by name.
+// The check for hosts: three calls over lent buffers. The crate host_c exports them to C.
+#![tactic(auto)]
+
 mod publishing;
 mod reading;
 mod report;
@@ -13,8 +15,7 @@ use reading::{evaluate_numbers, readable};
 use records::{State, gather, publish};
 
 // The answer's number alone; every buffer is the call's own.
-#[unsafe(no_mangle)]
-pub extern "C" fn rulebook_check(book: &[u8], budget: u32) -> u32
+pub fn rulebook_check(book: &[u8], budget: u32) -> u32
     ensures { Numbered book.now budget result }
 {
     let mut states = [0u16; 3 * Build::STATES];
@@ -35,8 +36,7 @@ pub extern "C" fn rulebook_check(book: &[u8], budget: u32) -> u32
 }
 
 // The check over lent buffers, so that a host can show the structure; the answer's fields go into `answer`.
-#[unsafe(no_mangle)]
-pub extern "C" fn rulebook_check_into(
+pub fn rulebook_check_into(
     book: &[u8],
     budget: u32,
     states: &mut [State],
@@ -65,8 +65,7 @@ pub extern "C" fn rulebook_check_into(
 }
 
 // Whether the book is true at state 1 of the structure that lies in the buffers: 1 or 2, or a refusal 10 to 14.
-#[unsafe(no_mangle)]
-pub extern "C" fn rulebook_evaluate(
+pub fn rulebook_evaluate(
     book: &[u8],
     states: &[State],
     states_count: usize,

@@ -9,7 +9,7 @@ use encoding::Build;
 use ground::both;
 
 // An answer's number, and how many records of the table it fills.
-#[derive(Drop)]
+#[derive(Clone, Copy)]
 pub struct Published {
     pub number: u32,
     pub records: usize,
@@ -64,6 +64,7 @@ fn check_room(
 }
 
 // The whole table, but nothing of it for 10 to 14, which leave it untouched.
+#[tactic(auto, unfolding(crate::specs::Steps::shown_of))]
 fn shown(number: u32) -> usize
     ensures { result ≡ shown_of number }
 {

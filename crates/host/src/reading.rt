@@ -41,6 +41,7 @@ pub fn evaluate_numbers(
 }
 
 // Document 01's number for each case.
+#[tactic(auto, unfolding(structure::specs::Evaluation::told))]
 fn number(e: Evaluation) -> u32
     ensures { result ≡ (told e).number }
 {

@@ -6,7 +6,7 @@ ghost use Rattle.propagation.specs.Judging.{Weighs, Judges, JudgesMet, Table};
 ghost use Rattle.propagation.specs.Judging as judging;
 
 // What a clause says; what is forced is the literal that stands at a place in it.
-#[derive(Drop)]
+#[derive(Clone, Copy)]
 pub enum Told {
     Quiet,
     Fails,

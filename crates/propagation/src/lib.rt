@@ -1,5 +1,7 @@
 // Document 01, "The search", propagation over lent buffers: what a clause says, the clauses of each literal, the trail, the number of unmet clauses, and forced
 // literals made true.
+#![tactic(auto)]
+
 mod clause;
 mod counting;
 mod links;

@@ -13,7 +13,7 @@ use crate::clause::{Told, clause_at, literal_at, mark, place, says};
 use crate::trail::{FIRST, assign, entry};
 
 // How propagation ended: whether calmly; the trail's top; and how many clauses are unmet.
-#[derive(Drop)]
+#[derive(Clone, Copy)]
 pub struct Settled {
     pub calm: bool,
     pub top: usize,

@@ -14,7 +14,7 @@ use crate::counting::unmet_with;
 pub const FIRST: u16 = 32768;
 
 // What entering a node comes to: the verdict, or a next node, with so many entries on the trail and so many unmet clauses.
-#[derive(Drop)]
+#[derive(Clone, Copy)]
 pub enum Step {
     Yes,
     No,

@@ -8,7 +8,7 @@ use mathlib.Core.List.{List, [], ◌∷◌, ◌++◌}
 use lib.ListN.{length, get_or, set, take, drop, replicate, length-set}
 use lib.Seq.{get_or-set_same, get_or-set_other, take-nil, drop-nil, take_at, take-append-le, length-take-le}
 use Rattle.ground.specs.Buffer.{filled}
-use Rattle.ground.proofs.Buffers.{Laid, Kept, is-filled, kept_set}
+use Rattle.ground.proofs.Buffers.{Laid, Kept, is-filled, kept_set, filled-laid, filled-kept, length-filled}
 use Rattle.records.specs.declared.State.{State}
 use Rattle.records.specs.Table.{zero_state, row_at, row_put, rows, numbers_of}
 
@@ -20,26 +20,19 @@ laid-set z n xs buf x h is laid i j = go (ℕ_discrete i n)
     go (yes q) = rw q (get_or-set_same buf n x z h ∙ is)
     go (no q) = get_or-set_other buf n i x z q ∙ laid i (omega arith)
 
--- The loop that publishes: f k has been put at each place k below n.
-abbrev pub written : {A : Type 0} → List A → (ℕ → A) → ℕ → List A
-written old f zero = old
-written old f (suc n) = set (written old f n) n (f n)
+-- nothing is laid yet, and one place more
+pub filled_none : {A : Type 0} (z : A) (xs old : List A) → old ≡ filled z 0 xs old
+unfolding filled
+filled_none z xs old = refl
 
-module _ {A : Type 0} (old : List A) (f : ℕ → A) where
-  pub length-written : (n : ℕ) → length (written old f n) ≡ length old
-  length-written zero = refl
-  length-written (suc n) = length-set (written old f n) n (f n) ∙ length-written n
-
-  pub written-filled : (z : A) (xs : List A) (n : ℕ) → n ≤ length old → ((i : ℕ) → i < n → f i ≡ get_or xs i z) → written old f n ≡ filled z n xs old
-  written-filled z xs n h is = is-filled z n xs old (written old f n) h (length-written n) (laid n h is) (kept n n (omega arith))
-    where
-      laid : (m : ℕ) → m ≤ length old → ((i : ℕ) → i < m → f i ≡ get_or xs i z) → Laid z m xs (written old f m)
-      laid zero l e i j = absurd (omega arith)
-      laid (suc m) l e i j = laid-set z m xs (written old f m) (f m) (rw length-written (omega arith)) (e m (omega arith)) (laid m (omega arith) (λ k q. e k (omega arith))) i (omega arith)
-
-      kept : (m n : ℕ) → m ≤ n → Kept z n old (written old f m)
-      kept zero n l i j = refl
-      kept (suc m) n l i j = kept_set z n old (written old f m) (f m) m (omega arith) (kept m n (omega arith)) i j
+pub filled_next : {A : Type 0} (z : A) (n : ℕ) (xs old buf : List A) (x : A) → n < length old → buf ≡ filled z n xs old → x ≡ get_or xs n z → set buf n x ≡ filled z (n + 1) xs old
+filled_next z n xs old buf x h b is =
+    let long : length buf ≡ length old = ap length b ∙ length-filled z n xs old (omega arith) in
+    let front : Laid z n xs buf = rw b (filled-laid z n xs old) in
+    let rest : Kept z n old buf = rw b (filled-kept z n xs old) in
+    is-filled z (n + 1) xs old (set buf n x) (omega arith) (length-set buf n x ∙ long)
+    (laid-set z n xs buf x (omega (arith, long)) is front)
+    (kept_set z (n + 1) old buf x n (omega arith) (λ i q. rest i (omega arith)))
 
 -- what stands at a place
 next_row : (i k : ℕ) → 3 * suc i + k ≡ suc (suc (suc (3 * i + k)))
@@ -48,13 +41,13 @@ next_row i k = omega arith
 next-rows : (i : ℕ) → 3 * suc i ≡ suc (suc (suc (3 * i)))
 next-rows i = omega arith
 
-pub get_d_rows : (xs : List ℕ) (i : ℕ) → 3 * i + 3 ≤ length xs → get_or (rows xs) i zero_state ≡ row_at xs i
+pub get_or_rows : (xs : List ℕ) (i : ℕ) → 3 * i + 3 ≤ length xs → get_or (rows xs) i zero_state ≡ row_at xs i
 unfolding rows
-get_d_rows [] i h = absurd (omega arith)
-get_d_rows (p ∷ []) i h = absurd (omega arith)
-get_d_rows (p ∷ r ∷ []) i h = absurd (omega arith)
-get_d_rows (p ∷ r ∷ m ∷ xs) zero h = refl
-get_d_rows (p ∷ r ∷ m ∷ xs) (suc i) h = rw (next_row i 1, next_row i 2, next-rows i) (get_d_rows xs i (omega arith))
+get_or_rows [] i h = absurd (omega arith)
+get_or_rows (p ∷ []) i h = absurd (omega arith)
+get_or_rows (p ∷ r ∷ []) i h = absurd (omega arith)
+get_or_rows (p ∷ r ∷ m ∷ xs) zero h = refl
+get_or_rows (p ∷ r ∷ m ∷ xs) (suc i) h = rw (next_row i 1, next_row i 2, next-rows i) (get_or_rows xs i (omega arith))
 
 pub row_at-numbers_of : (ss : List State) (i : ℕ) → row_at (numbers_of ss) i ≡ get_or ss i zero_state
 unfolding numbers_of
@@ -89,43 +82,16 @@ numbers_of-rows (p ∷ r ∷ []) n h = absurd (omega arith)
 numbers_of-rows (p ∷ r ∷ m ∷ xs) zero h = absurd (omega arith)
 numbers_of-rows (p ∷ r ∷ m ∷ xs) (suc n) h = ap (λ (l : List ℕ). p ∷ r ∷ m ∷ l) (numbers_of-rows xs n (omega arith))
 
--- The loop that gathers: each record below n has been put.
-abbrev pub laid_out : List ℕ → List State → ℕ → List ℕ
-laid_out old ss zero = old
-laid_out old ss (suc n) = row_put (laid_out old ss n) n (get_or ss n zero_state)
-
-module _ (old : List ℕ) (ss : List State) where
-  pub length-laid_out : (n : ℕ) → length (laid_out old ss n) ≡ length old
-  length-laid_out zero = refl
-  length-laid_out (suc n) = simp length-set (length-laid_out n)
-
-  laid-row : (n : ℕ) (buf : List ℕ) → 3 * n + 3 ≤ length buf → Laid 0 (3 * n) (numbers_of ss) buf → Laid 0 (3 * suc n) (numbers_of ss) (row_put buf n (get_or ss n zero_state))
-  laid-row n buf h l i j =
-      let s = get_or ss n zero_state in
-      let is = sym (row_at-numbers_of ss n) in
-      let one = set buf (3 * n) s.parent in
-      let two = set one (3 * n + 1) s.relation in
-      let at_one = laid-set 0 (3 * n) (numbers_of ss) buf s.parent (omega arith) (ap (λ (r : State). r.parent) is) l in
-      let at-two = laid-set 0 (3 * n + 1) (numbers_of ss) one s.relation (simp length-set (omega arith)) (ap (λ (r : State). r.relation) is) at_one in
-      laid-set 0 (3 * n + 2) (numbers_of ss) two s.maker (simp length-set (omega arith)) (ap (λ (r : State). r.maker) is) (λ k q. at-two k (omega arith)) i (omega arith)
-
-  kept_row : (n m : ℕ) (buf : List ℕ) (s : State) → 3 * m + 3 ≤ 3 * n → Kept 0 (3 * n) old buf → Kept 0 (3 * n) old (row_put buf m s)
-  kept_row n m buf s h k =
-      let one = set buf (3 * m) s.parent in
-      let two = set one (3 * m + 1) s.relation in
-      kept_set 0 (3 * n) old two s.maker (3 * m + 2) (omega arith)
-      (kept_set 0 (3 * n) old one s.relation (3 * m + 1) (omega arith) (kept_set 0 (3 * n) old buf s.parent (3 * m) (omega arith) k))
-
-  pub laid_out-filled : (n : ℕ) → 3 * n ≤ length old → laid_out old ss n ≡ filled 0 (3 * n) (numbers_of ss) old
-  laid_out-filled n h = is-filled 0 (3 * n) (numbers_of ss) old (laid_out old ss n) h (length-laid_out n) (laid n h) (kept n (omega arith))
-    where
-      laid : (m : ℕ) → 3 * m ≤ length old → Laid 0 (3 * m) (numbers_of ss) (laid_out old ss m)
-      laid zero l i j = absurd (omega arith)
-      laid (suc m) l i j = laid-row m (laid_out old ss m) (rw length-laid_out (omega arith)) (laid m (omega arith)) i j
-
-      kept : (m : ℕ) → m ≤ n → Kept 0 (3 * n) old (laid_out old ss m)
-      kept zero l i j = refl
-      kept (suc m) l i j = kept_row n m (laid_out old ss m) (get_or ss m zero_state) (omega arith) (kept m (omega arith)) i j
+-- one record more is put
+pub row_next : (n : ℕ) (ss : List State) (old buf : List ℕ) (s : State) → 3 * n + 3 ≤ length old → buf ≡ filled 0 (3 * n) (numbers_of ss) old → s ≡ get_or ss n zero_state → row_put buf n s ≡ filled 0 (3 * (n + 1)) (numbers_of ss) old
+row_next n ss old buf s h b is =
+    let at : s ≡ row_at (numbers_of ss) n = is ∙ sym (row_at-numbers_of ss n) in
+    let e : 3 * (n + 1) ≡ 3 * n + 1 + 1 + 1 = omega arith in
+    let f : 3 * n + 2 ≡ 3 * n + 1 + 1 = omega arith in
+    let maker : s.maker ≡ get_or (numbers_of ss) (3 * n + 1 + 1) 0 = ap (λ (r : State). r.maker) at ∙ ap (λ (k : ℕ). get_or (numbers_of ss) k 0) f in
+    let one : set buf (3 * n) s.parent ≡ filled 0 (3 * n + 1) (numbers_of ss) old = filled_next 0 (3 * n) (numbers_of ss) old buf s.parent (omega arith) b (ap (λ (r : State). r.parent) at) in
+    let two : set (set buf (3 * n) s.parent) (3 * n + 1) s.relation ≡ filled 0 (3 * n + 1 + 1) (numbers_of ss) old = filled_next 0 (3 * n + 1) (numbers_of ss) old (set buf (3 * n) s.parent) s.relation (omega arith) one (ap (λ (r : State). r.relation) at) in
+    rw (e, f) (filled_next 0 (3 * n + 1 + 1) (numbers_of ss) old (set (set buf (3 * n) s.parent) (3 * n + 1) s.relation) s.maker (omega arith) two maker)
 
 -- Where the first n records have been gathered, the first 3 × n numbers are theirs.
 take-numbers_of : (n : ℕ) (ss : List State) → take (3 * n) (numbers_of ss) ≡ numbers_of (take n ss)

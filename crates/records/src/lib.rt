@@ -1,11 +1,13 @@
 // Document 01, "a lent table of state records (512; parent, relation, making variable)": the table as a slice of records, and the way between it and the
 // same records as numbers, three to a record, which the build writes and the structure reads.
+#![tactic(auto)]
+
 ghost use Rattle.std.specs.Prelude.{◌≡◌, ◌+◌, ◌*◌, ◌≤◌, ◌<◌, length, get_or};
 ghost use Rattle.ground.specs.Buffer.{filled};
 ghost use Rattle.records.specs.Table.{zero_state, row_at, row_put, rows, numbers_of};
 
 #[repr(C)]
-#[derive(Drop)]
+#[derive(Clone, Copy)]
 pub struct State {
     pub parent: u16,
     pub relation: u16,
@@ -45,6 +47,7 @@ pub fn record_at(t: &[State], i: usize) -> State
 }
 
 // The first n records of the table become those of the numbers. One pass over them.
+#[tactic(auto, using(crate::proofs::Tables::filled_none, crate::proofs::Tables::filled_next, crate::proofs::Tables::get_or_rows))]
 pub fn publish(t: &mut [State], numbers: &[u16], n: usize)
     requires { (n ≤ length t.old) × (3 * n ≤ length numbers.now) }
     ensures { t.new ≡ filled zero_state n (rows numbers.now) t.old }
@@ -58,6 +61,7 @@ pub fn publish(t: &mut [State], numbers: &[u16], n: usize)
 }
 
 // The first 3 × n numbers become those of the first n records of the table. One pass over them.
+#[tactic(auto, using(crate::proofs::Tables::filled_none, crate::proofs::Tables::row_next))]
 pub fn gather(t: &[State], numbers: &mut [u16], n: usize)
     requires { (n ≤ length t.now) × (3 * n ≤ length numbers.old) }
     ensures { numbers.new ≡ filled 0 (3 * n) (numbers_of t.now) numbers.old }

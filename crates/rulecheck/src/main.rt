@@ -1,8 +1,18 @@
 // The program: a book on standard input, its answer on standard output, as document 01 prints it.
+#![tactic(auto)]
+
+ghost use Rattle.std.specs.Prelude.{OnOk, IfSome};
+ghost use Rattle.std.specs.Io.KnownBytes.{Appends};
+ghost use Rattle.checker.specs.Checked.{told};
+ghost use Rattle.rulecheck.specs.Printed.{printed, printed_of, printed_for};
+
 mod show;
 
 use checker::Answer;
 use encoding::Build;
+use std::io;
+use std::io::{Read, Write};
+use streams::read_full;
 
 // "uses a budget of 1,000,000"
 const BUDGET: u32 = 1000000;
@@ -10,13 +20,22 @@ const BUDGET: u32 = 1000000;
 // "reads a book from standard input (up to 8,193 bytes)": one byte more than the longest book.
 const MOST: usize = 8193;
 
-fn main() {
-    let mut input = [0u8; MOST];
-    let n = io::read_full(libc::STDIN_FILENO, &mut input);
-    answer(&input[..n]);
+fn main(rt: HostRuntime) -> io::Result<()> {
+    run(&mut rt.reader(), &mut io::writer(&rt))
 }
 
-fn answer(book: &[u8]) {
+// Reads a book and prints its answer.
+fn run<R: Read, W: Write>(input: &mut R, out: &mut W) -> io::Result<()>
+    ensures { OnOk result (IfSome (R.remaining input.old) (λ xs. Appends (W.contents out.old) (W.contents out.new) (printed_for xs))) }
+{
+    let mut book = [0u8; MOST];
+    let n = read_full(input, &mut book)?;
+    answer(out, &book[..n])
+}
+
+fn answer<W: Write>(out: &mut W, book: &[u8]) -> io::Result<()>
+    ensures { OnOk result (Appends (W.contents out.old) (W.contents out.new) (printed_of book.now)) }
+{
     let mut states = [0u16; 3 * Build::STATES];
     let mut words = [0u32; Build::VARIABLES];
     let mut clauses = [0i16; 3 * Build::CLAUSES];
@@ -31,18 +50,31 @@ fn answer(book: &[u8]) {
         &mut values,
         &mut work,
     );
+    lines(out, a, &states, &words, &values)
+}
+
+#[tactic(auto, using(crate::proofs::Written::appends_more), unfolding(crate::specs::Printed::printed))]
+fn lines<W: Write>(
+    out: &mut W,
+    a: Answer,
+    states: &[u16],
+    words: &[u32],
+    values: &[u8],
+) -> io::Result<()>
+    ensures { OnOk result (Appends (W.contents out.old) (W.contents out.new) (printed (told a) states.now words.now values.now)) }
+{
     match a {
         Answer::Yes(b, n) => {
-            show::verdict(b, b"yes", n);
-            show::structure(b, &states, &words, &values);
+            show::verdict(out, b, "yes", n)?;
+            show::structure(out, b, states, words, values)
         }
-        Answer::No(b, n) => show::verdict(b, b"no", n),
-        Answer::Stopped(b, n) => show::verdict(b, b"stopped", n),
-        Answer::Lent => show::refusal(10, 0),
-        Answer::Short => show::refusal(11, 0),
-        Answer::Ranges => show::refusal(12, 0),
-        Answer::Extent => show::refusal(13, 0),
-        Answer::Node(i) => show::refusal(14, i),
-        Answer::Oversized => show::refusal(15, 0),
+        Answer::No(b, n) => show::verdict(out, b, "no", n),
+        Answer::Stopped(b, n) => show::verdict(out, b, "stopped", n),
+        Answer::Lent => show::refusal(out, 10, 0),
+        Answer::Short => show::refusal(out, 11, 0),
+        Answer::Ranges => show::refusal(out, 12, 0),
+        Answer::Extent => show::refusal(out, 13, 0),
+        Answer::Node(i) => show::refusal(out, 14, i),
+        Answer::Oversized => show::refusal(out, 15, 0),
     }
 }

@@ -1,69 +1,82 @@
 // The lines that the program prints.
+ghost use Rattle.std.specs.Prelude.{◌++◌, OnOk};
+ghost use Rattle.std.specs.Io.KnownBytes.{Appends};
+ghost use Rattle.rulecheck.specs.Lines.{refusal_line, size_line, verdict_line, numbers_marked, line_of, structure_lines};
+
 use encoding::Build;
-use libc::STDOUT_FILENO;
+use std::io;
+use std::io::Write;
 
 // "refused, number, place"
-pub fn refusal(number: u64, place: usize) {
-    io::write_all(STDOUT_FILENO, b"refused");
-    put(number);
-    put(place as u64);
-    end();
+pub fn refusal<W: Write>(out: &mut W, number: u64, place: usize) -> io::Result<()>
+    ensures { OnOk result (Appends (W.contents out.old) (W.contents out.new) (refusal_line number place)) }
+{
+    writeln!(out, "refused {number} {place}")
 }
 
 // "First line: states, variables, clauses. Second: yes, no or stopped, and the count."
-pub fn verdict(b: Build, word: &[u8], count: u32) {
-    io::write_all(STDOUT_FILENO, b"size");
-    put(b.states as u64);
-    put(b.variables as u64);
-    put(b.clauses as u64);
-    end();
-    io::write_all(STDOUT_FILENO, word);
-    put(count as u64);
-    end();
+pub fn verdict<W: Write>(out: &mut W, b: Build, word: &str, count: u32) -> io::Result<()>
+    ensures { OnOk result (Appends (W.contents out.old) (W.contents out.new) (size_line b.states b.variables b.clauses ++ verdict_line word.now count)) }
+{
+    let states = b.states;
+    let variables = b.variables;
+    let clauses = b.clauses;
+    writeln!(out, "size {states} {variables} {clauses}")?;
+    writeln!(out, "{word} {count}")
 }
 
 // "For yes, each living state by number". One pass over the states, and for each that lives one over the words.
-pub fn structure(b: Build, states: &[u16], words: &[u32], values: &[u8]) {
+#[tactic(auto, using(crate::proofs::Written::appends_none, crate::proofs::Written::state_none, crate::proofs::Written::state_put, crate::proofs::Written::state_passed), unfolding(crate::specs::Lines::lives_at))]
+pub fn structure<W: Write>(
+    out: &mut W,
+    b: Build,
+    states: &[u16],
+    words: &[u32],
+    values: &[u8],
+) -> io::Result<()>
+    ensures { OnOk result (Appends (W.contents out.old) (W.contents out.new) (structure_lines b.states states.now b.variables words.now values.now)) }
+{
     let mut lives = [0u8; Build::STATES];
     structure::mark_living(states, b.states, values, b.variables, &mut lives);
-    let mut s: usize = 1;
-    while s <= Build::STATES {
-        if structure::marked(&lives, s - 1) {
-            state(b, states, words, values, s);
+    for s in 0..Build::STATES {
+        if structure::marked(&lives, s) {
+            state(out, b, states, words, values, s + 1)?;
         }
-        s += 1;
     }
+    Ok(())
 }
 
 // "state, parent, relation, then its true atoms ascending"
-fn state(b: Build, states: &[u16], words: &[u32], values: &[u8], s: usize) {
+#[tactic(auto, unfolding(crate::specs::Lines::atoms_at))]
+fn state<W: Write>(
+    out: &mut W,
+    b: Build,
+    states: &[u16],
+    words: &[u32],
+    values: &[u8],
+    s: usize,
+) -> io::Result<()>
+    ensures { OnOk result (Appends (W.contents out.old) (W.contents out.new) (line_of b.states states.now b.variables words.now values.now s)) }
+{
     let edge = structure::edge_to(states, b.states, s);
     let mut atoms = [0u8; 256];
     structure::mark_atoms(words, b.variables, values, s, &mut atoms);
-    io::write_all(STDOUT_FILENO, b"state");
-    put(s as u64);
-    put(edge.parent as u64);
-    put(edge.relation as u64);
-    put_marked(&atoms);
-    end();
+    let parent = edge.parent;
+    let relation = edge.relation;
+    write!(out, "state {s} {parent} {relation}")?;
+    put_marked(out, &atoms)?;
+    writeln!(out)
 }
 
-fn put_marked(marks: &[u8; 256]) {
-    let mut a: usize = 0;
-    while a < 256 {
+// The marked numbers ascending, each after a space.
+#[tactic(auto, using(crate::proofs::Written::appends_none, crate::proofs::Written::number_none, crate::proofs::Written::number_put, crate::proofs::Written::number_passed))]
+fn put_marked<W: Write>(out: &mut W, marks: &[u8; 256]) -> io::Result<()>
+    ensures { OnOk result (Appends (W.contents out.old) (W.contents out.new) (numbers_marked marks.now 256)) }
+{
+    for a in 0..256 {
         if structure::marked(marks, a) {
-            put(a as u64);
+            write!(out, " {a}")?;
         }
-        a += 1;
     }
-}
-
-// A space and a number.
-fn put(n: u64) {
-    io::write_all(STDOUT_FILENO, b" ");
-    io::print_decimal(STDOUT_FILENO, n);
-}
-
-fn end() {
-    io::write_all(STDOUT_FILENO, b"\n");
+    Ok(())
 }

@@ -1,4 +1,6 @@
 // Document 01, "The build": what is done to a variable. The three rules at one place v: what a phase does to the variable of state s that stands there.
+#![tactic(auto)]
+
 mod classes;
 
 ghost use Rattle.std.specs.Prelude.{◌≡◌, ◌*◌, ◌/◌, ◌≤◌, ◌<◌, length, get_or};

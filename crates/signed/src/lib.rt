@@ -1,4 +1,6 @@
 // A signed formula's key and the class of a key, read from a rulebook's bytes.
+#![tactic(auto)]
+
 ghost use Rattle.std.specs.Prelude.{◌≡◌, ◌<◌, length};
 ghost use Rattle.book.specs.Rulebook.{table_of};
 ghost use Rattle.book.specs.Told.{Sound};
@@ -8,13 +10,13 @@ ghost use Rattle.signed.specs.Asking.{ask_of, class_of, Small, Tame, flip_if, is
 // The key of the first atom.
 const FIRST_ATOM: usize = 1024;
 
-#[derive(Drop)]
+#[derive(Clone, Copy)]
 pub struct Ask {
     pub minus: bool,
     pub key: usize,
 }
 
-#[derive(Drop)]
+#[derive(Clone, Copy)]
 pub enum Class {
     Leaf,
     Conjunctive(Ask, Ask),

@@ -1,4 +1,6 @@
 // The search by itself, for measurements and for clauses from elsewhere: no book and no build, but clauses that the caller has made.
+#![tactic(auto)]
+
 ghost use Rattle.std.specs.Prelude.{◌≡◌};
 ghost use Rattle.solve.specs.Solved as def;
 ghost use Rattle.solve.specs.Solved.{Solved, number_of};
@@ -13,13 +15,7 @@ const NUMBERS: usize = 65535;
 
 // Document 01's number: 1 yes, 2 no, 3 stopped; or 10, with nothing touched, where the clauses or the buffers do not fit. There are as many
 // variables as values.
-#[unsafe(no_mangle)]
-pub extern "C" fn rulebook_search(
-    clauses: &[i16],
-    values: &mut [u8],
-    work: &mut [u16],
-    budget: u32,
-) -> u32
+pub fn rulebook_search(clauses: &[i16], values: &mut [u8], work: &mut [u16], budget: u32) -> u32
     ensures { Solved clauses.now values.old work.old budget values.new work.new result }
 {
     if !fits(clauses, values.len(), work.len()) {

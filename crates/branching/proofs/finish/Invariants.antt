@@ -1,0 +1,19 @@
+-- The invariant: the first i marks have become values, the rest are as they were.
+use mathlib.Core.Path.{◌≡◌}
+use mathlib.Core.List.{List, ◌++◌, map}
+use Prim.Native.Nat.{ℕ, ◌-◌, ◌%◌, ◌≤◌}
+use lib.ListN.{length, take, drop}
+use Rattle.branching.proofs.finish.Given as goal
+
+abbrev pub rest : ℕ → ℕ
+rest x = x % 2
+
+-- a list whose first i elements are changed by f
+abbrev pub part : (ℕ → ℕ) → ℕ → List ℕ → List ℕ
+part f i l = map f (take i l) ++ drop i l
+
+abbrev pub invariant-loop-i : goal.invariant-loop-i
+invariant-loop-i l = (l.i ≤ length l.initial.values) × (length l.values ≡ length l.initial.values) × (l.values ≡ part rest l.i l.initial.values)
+
+abbrev pub decreases-loop-i : goal.decreases-loop-i
+decreases-loop-i l = length l.initial.values - l.i

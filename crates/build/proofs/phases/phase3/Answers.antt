@@ -1,0 +1,102 @@
+use native.Mathlib.Omega.{arith}
+use mathlib.Core.Path.{refl}
+use Rattle.book.specs.Rulebook.{table_of}
+use Rattle.encoding.specs.Build.{plan, scan, by, rule3}
+use Rattle.encoding.proofs.Totals.{phase3-less}
+use Rattle.rules.proofs.Moving.{over_pushing, stays-refl, stays_then}
+use Rattle.build.proofs.Looping.{childless, begins3, turns3, follows, ends3}
+use Rattle.build.proofs.phases.phase3.Goals as goal
+
+pub returns-then-c-ne0 : goal.returns-then-c-ne0
+returns-then-c-ne0 c = (over_pushing c.requires.room.0 c.if-c-ne0.true (λ φ. phase3-less φ c.args.s), c.requires.indexed)
+
+pub returns-then-c-before : goal.returns-then-c-before
+returns-then-c-before c = (childless c.requires.room.0 c.if-c-ne0.false c.if-c-before.true c.requires.low.1, c.requires.indexed)
+
+pub first_of-v-requires : goal.first_of-v-requires
+first_of-v-requires c = (omega (arith, c.requires.room.1, c.requires.room.0.states), c.requires.indexed.listed.long)
+
+pub loop-v-init : goal.loop-v-init
+loop-v-init c =
+    let a = c.args in
+    let f = c.first_of-v.ensures a.words.now c.requires.indexed.listed in (
+      f.0,
+      stays-refl a.c a.words.now c.requires.room.0,
+      refl,
+      refl,
+      refl,
+      refl,
+      c.requires.indexed,
+      f.2,
+      λ root o B sh. begins3 (plan (table_of a.book.now) root) B c.requires.room.0 f.0 f.1 sh,
+    )
+
+pub rule3-d-requires-clause-sound : goal.rule3-d-requires-clause-sound
+rule3-d-requires-clause-sound c =
+    c.requires.sound
+
+pub rule3-d-requires-clause-room : goal.rule3-d-requires-clause-room
+rule3-d-requires-clause-room c =
+    let inv = c.loop-v.invariant in
+    let next = inv.1.next in
+    let long = c.requires.long in
+    let taken = c.loop-v-test.true in (next.room, omega (arith, taken, next.variables), omega (arith, c.requires.room.2, next.states))
+
+pub rule3-d-requires-clause-v_value : goal.rule3-d-requires-clause-v_value
+rule3-d-requires-clause-v_value c =
+    let inv = c.loop-v.invariant in
+    let next = inv.1.next in
+    let long = c.requires.long in
+    let taken = c.loop-v-test.true in (inv.7 taken, inv.6)
+
+pub rule3-d-requires-clause-long : goal.rule3-d-requires-clause-long
+rule3-d-requires-clause-long c =
+    let inv = c.loop-v.invariant in
+    let next = inv.1.next in
+    let long = c.requires.long in
+    let taken = c.loop-v-test.true in (long.0, omega (arith, long.1, inv.2), omega (arith, long.2, inv.3))
+
+pub rule3-d-requires-clause-low : goal.rule3-d-requires-clause-low
+rule3-d-requires-clause-low c =
+    c.requires.low
+
+pub next_of-v-requires : goal.next_of-v-requires
+next_of-v-requires c = (c.loop-v-test.true, c.requires.room.0.variables, c.rule3-d.ensures.1.listed.long)
+
+pub loop-v-smaller : goal.loop-v-smaller
+loop-v-smaller c =
+    let y = c.rule3-d in
+    let f = c.next_of-v.ensures _ y.result.variables (omega (arith, c.loop-v.invariant.1.next.variables, y.ensures.0.stays.next.variables)) y.ensures.1.listed in
+    omega (arith, f.0, f.1)
+
+pub loop-v-preserved : goal.loop-v-preserved
+loop-v-preserved c =
+    let a = c.args in
+    let l = c.loop-v in
+    let inv = l.invariant in
+    let y = c.rule3-d in
+    let next = y.ensures.0.stays.next in
+    let taken = c.loop-v-test.true in
+    let up = inv.1.next.variables in
+    let g = c.next_of-v.ensures _ y.result.variables (omega (arith, up, next.variables)) y.ensures.1.listed in
+    let f = follows l.v a.c.variables c.next_of-v.result next (omega (arith, taken, up)) (inv.7 taken) g in (
+      f.1,
+      stays_then inv.1 y.ensures.0.stays,
+      omega arith,
+      omega arith,
+      omega arith,
+      omega arith,
+      y.ensures.1,
+      f.3,
+      λ root o B sh.
+          let φ = plan (table_of a.book.now) root in
+          turns3 φ B next.room (omega (arith, f.1, up, next.variables)) f.0 f.2 (y.ensures.0.does root o (scan (by φ (rule3 φ) a.s) l.v 0 B) (inv.8 root o B sh)),
+    )
+
+pub returns : goal.returns
+returns c =
+    let a = c.args in
+    let inv = c.loop-v.invariant in (
+      record { stays = inv.1; does = λ root o B sh. ends3 (plan (table_of a.book.now) root) a.s B c.if-c-ne0.false sh (omega (arith, inv.0, c.loop-v-test.false)) (inv.8 root o B sh) },
+      inv.6,
+    )

@@ -1,0 +1,30 @@
+-- From what the check promises and what was read to what is printed. Assumes nothing.
+use Rattle.std.proofs.Common.{ℕ, ◌≡◌, ◌<◌, ◌≤◌, List, [], ◌++◌, refl, sym, ap, ◌∙◌, subst, length, take, arith, length-take-le, take_all, append-nil, IfSome, None, Some}
+use Rattle.std.specs.declared.option.Option.{Option}
+use Rattle.std.specs.Io.KnownBytes.{Consumes, IsAtEnd}
+use lib.Seq.{take_at}
+use native.Mathlib.Decide.{dec_lt}
+use Rattle.checker.specs.Checked.{Lent, lent, told}
+use Rattle.checker.specs.Meant.{Promised}
+use Rattle.checker.specs.declared.Answer as code
+use Rattle.rulecheck.specs.Printed.{printed, printed_of, own}
+
+pub told_printed : (bs : List ℕ) (o' : Lent) (a : code.Answer) → Promised bs 1000000 own o' a → printed_of bs ≡ printed (told a) o'.states o'.words o'.values
+unfolding printed_of
+told_printed bs o' a p = sym (λ i. printed (p.answer i) (p.lent i).states (p.lent i).words (p.lent i).values)
+
+pub whole_read : (old new : Option (List ℕ)) (n : ℕ) (buf : List ℕ) (P : List ℕ → Type 0) → length buf ≡ 8193 → n ≤ length buf → Consumes old new (take n buf) → (n < length buf → IsAtEnd new) → P (take n buf)
+    → IfSome old (λ xs. P (take 8193 xs))
+whole_read None new n buf P l h c e p = tt
+whole_read (Some xs) None n buf P l h c e p = absurd c
+whole_read (Some xs) (Some ys) n buf P l h c e p = subst P (sym same) p
+  where
+    size : length (take n buf) ≡ n
+    size = length-take-le n buf h
+
+    go : Dec (n < length buf) → take 8193 (take n buf ++ ys) ≡ take n buf
+    go (yes q) = ap (λ (l : List ℕ). take 8193 (take n buf ++ l)) (e q) ∙ ap (take 8193) (append-nil (take n buf)) ∙ take_all 8193 (take n buf) (omega (arith, size))
+    go (no q) = take_at (take n buf) ys 8193 (omega (arith, size))
+
+    same : take 8193 xs ≡ take n buf
+    same = ap (take 8193) c ∙ go (dec_lt n (length buf))

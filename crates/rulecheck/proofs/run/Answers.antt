@@ -1,0 +1,13 @@
+use Rattle.std.specs.Io.KnownBytes.{Appends}
+use Rattle.std.proofs.Common.{List, ℕ}
+use Rattle.std.proofs.lemmas.Result.{on_ok_weaker}
+use Rattle.rulecheck.specs.Printed.{printed_of}
+use Rattle.rulecheck.proofs.Reading.{whole_read}
+use Rattle.rulecheck.proofs.run.Goals as goal
+
+pub returns : goal.returns
+returns g c =
+    let P : List ℕ → Type 0 = λ bs. Appends (g.W.Write.contents c.args.out.now) (g.W.Write.contents c.answer.new.out) (printed_of bs) in
+    on_ok_weaker c.answer.result
+    (λ p. whole_read _ _ c.in_ok-n.n c.read_full.new.buf P c.read_full.auto.buf c.in_ok-n.ensures.in_bounds c.in_ok-n.ensures.bytes c.in_ok-n.ensures.end p)
+    c.answer.ensures
