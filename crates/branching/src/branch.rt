@@ -14,6 +14,7 @@ use crate::Outcome;
 use propagation::{FIRST, Step, assign, back, entry, settle};
 
 // The place of the lowest unassigned variable, where none is unassigned below `from`. One pass over the variables from there on at most.
+#[tactic(auto, using(search::proofs::Marks::lowest_le, crate::proofs::Lowest::lowest_from, crate::proofs::Lowest::lowest_here, crate::proofs::Lowest::lowest_more, crate::proofs::Lowest::lowest_past))]
 fn lowest(values: &[u8], from: usize) -> usize
     requires { from ≤ def.lowest values.now }
     ensures { result ≡ def.lowest values.now }
@@ -82,7 +83,8 @@ fn next(
     let top = s.top;
     let left = s.unmet;
     if s.calm {
-        if left == 0 {
+        let all_met = left == 0;
+        if all_met {
             return Step::Yes;
         }
         first_branch(clauses, links, values, truth, trail, saved, top, from, left)

@@ -154,7 +154,8 @@ fn push(
     }
     let d = record_at(states, j);
     if d.parent == s {
-        if d.relation == r {
+        let same_relation = d.relation == r;
+        if same_relation {
             let x = ask(words, finder, own, c, j + 1, l.key);
             return write(
                 clauses,

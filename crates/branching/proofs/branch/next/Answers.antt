@@ -20,7 +20,7 @@ use Rattle.propagation.proofs.Triples.{triples_in}
 use Rattle.propagation.proofs.Unmet.{number-tells}
 use Rattle.branching.proofs.Whole.{branch_open, stepped_yes, stepped_branch, stepped_back, above_low}
 use Rattle.branching.proofs.branch.next.Goals as goal
-use Rattle.branching.proofs.branch.next.Goals.{After-settle-s, Else-left-eq0, Then-s}
+use Rattle.branching.proofs.branch.next.Goals.{After-settle-s, Else-all_met, Then-s}
 
 -- after propagation
 module _ (S : After-settle-s) where
@@ -82,17 +82,17 @@ module _ (c : Then-s) where
   calmly = settled (goal.at.Then-s c).After-settle-s true c.if-s.true
 
 -- some clause is not met, so that there is something to branch on, and room to note it
-module _ (e : Else-left-eq0) where
-  unmet : all_met (b (goal.at.Else-left-eq0 e).After-settle-s) (triples (cl (goal.at.Else-left-eq0 e).After-settle-s)) ≡ false
+module _ (e : Else-all_met) where
+  unmet : all_met (b (goal.at.Else-all_met e).After-settle-s) (triples (cl (goal.at.Else-all_met e).After-settle-s)) ≡ false
   unmet =
-      sym (number-tells (b (goal.at.Else-left-eq0 e).After-settle-s) (triples (cl (goal.at.Else-left-eq0 e).After-settle-s)))
-      ∙ ne_eqb (unmet_among (b (goal.at.Else-left-eq0 e).After-settle-s) (triples (cl (goal.at.Else-left-eq0 e).After-settle-s))) 0 (λ z. omega (arith, e.settle-s.ensures.2, e.if-left-eq0.false, z))
+      sym (number-tells (b (goal.at.Else-all_met e).After-settle-s) (triples (cl (goal.at.Else-all_met e).After-settle-s)))
+      ∙ ne_eqb (unmet_among (b (goal.at.Else-all_met e).After-settle-s) (triples (cl (goal.at.Else-all_met e).After-settle-s))) 0 (λ z. omega (arith, e.settle-s.ensures.2, e.if-all_met.false, z))
 
-  room : top (goal.at.Else-left-eq0 e).After-settle-s < length (u (goal.at.Else-left-eq0 e).After-settle-s)
-  room = omega (arith, branch_open (within (goal.at.Else-left-eq0 e).After-settle-s) (calmly (goal.at.Else-left-eq0 e).Then-s) unmet, (calmly (goal.at.Else-left-eq0 e).Then-s).used, long (goal.at.Else-left-eq0 e).After-settle-s, e.requires.2)
+  room : top (goal.at.Else-all_met e).After-settle-s < length (u (goal.at.Else-all_met e).After-settle-s)
+  room = omega (arith, branch_open (within (goal.at.Else-all_met e).After-settle-s) (calmly (goal.at.Else-all_met e).Then-s) unmet, (calmly (goal.at.Else-all_met e).Then-s).used, long (goal.at.Else-all_met e).After-settle-s, e.requires.2)
 
-  room-saved : top (goal.at.Else-left-eq0 e).After-settle-s < length (sv (goal.at.Else-left-eq0 e).After-settle-s)
-  room-saved = omega (arith, room, long (goal.at.Else-left-eq0 e).After-settle-s, e.requires.3)
+  room-saved : top (goal.at.Else-all_met e).After-settle-s < length (sv (goal.at.Else-all_met e).After-settle-s)
+  room-saved = omega (arith, room, long (goal.at.Else-all_met e).After-settle-s, e.requires.3)
 
 pub above-from-requires : goal.above-from-requires
 above-from-requires c = omega (arith, c.requires.2)
@@ -100,16 +100,16 @@ above-from-requires c = omega (arith, c.requires.2)
 pub settle-s-requires : goal.settle-s-requires
 settle-s-requires c = let p = c.requires in (p.0, p.1, p.2, p.4, p.6)
 
-pub returns-then-left-eq0 : goal.returns-then-left-eq0
-returns-then-left-eq0 c = (stepped_yes (calmly (goal.at.returns-then-left-eq0 c).Then-s) (sym (number-tells (b (goal.at.returns-then-left-eq0 c).After-settle-s) (triples (cl (goal.at.returns-then-left-eq0 c).After-settle-s))) ∙ eq-eqb (unmet_among (b (goal.at.returns-then-left-eq0 c).After-settle-s) (triples (cl (goal.at.returns-then-left-eq0 c).After-settle-s))) 0 (sym c.settle-s.ensures.2 ∙ c.if-left-eq0.true)) (sv (goal.at.returns-then-left-eq0 c).After-settle-s), c.settle-s.ensures.1)
+pub returns-then-all_met : goal.returns-then-all_met
+returns-then-all_met c = (stepped_yes (calmly (goal.at.returns-then-all_met c).Then-s) (sym (number-tells (b (goal.at.returns-then-all_met c).After-settle-s) (triples (cl (goal.at.returns-then-all_met c).After-settle-s))) ∙ eq-eqb (unmet_among (b (goal.at.returns-then-all_met c).After-settle-s) (triples (cl (goal.at.returns-then-all_met c).After-settle-s))) 0 (sym c.settle-s.ensures.2 ∙ c.if-all_met.true)) (sv (goal.at.returns-then-all_met c).After-settle-s), c.settle-s.ensures.1)
 
 pub first_branch-requires : goal.first_branch-requires
 first_branch-requires c = (
   (_, shown (goal.at.first_branch-requires c).After-settle-s),
   linked (goal.at.first_branch-requires c).After-settle-s,
-  branch_open (within (goal.at.first_branch-requires c).After-settle-s) (calmly (goal.at.first_branch-requires c).Then-s) (unmet (goal.at.first_branch-requires c).Else-left-eq0),
-  room (goal.at.first_branch-requires c).Else-left-eq0,
-  room-saved (goal.at.first_branch-requires c).Else-left-eq0,
+  branch_open (within (goal.at.first_branch-requires c).After-settle-s) (calmly (goal.at.first_branch-requires c).Then-s) (unmet (goal.at.first_branch-requires c).Else-all_met),
+  room (goal.at.first_branch-requires c).Else-all_met,
+  room-saved (goal.at.first_branch-requires c).Else-all_met,
   from_low (goal.at.first_branch-requires c).After-settle-s,
   c.settle-s.ensures.2,
 )
@@ -119,10 +119,10 @@ back-requires c =
     let used = c.settle-s.ensures.0.used in
     ((_, shown (goal.at.back-requires c).After-settle-s), linked (goal.at.back-requires c).After-settle-s, omega (arith, used, long (goal.at.back-requires c).After-settle-s, c.requires.2), omega (arith, used, c.requires.2, c.requires.3), saved (goal.at.back-requires c).After-settle-s)
 
-pub returns-else-left-eq0 : goal.returns-else-left-eq0
-returns-else-left-eq0 c =
+pub returns-else-all_met : goal.returns-else-all_met
+returns-else-all_met c =
     let p = c.requires in
-    (stepped_branch (within (goal.at.returns-else-left-eq0 c).After-settle-s) (calmly (goal.at.returns-else-left-eq0 c).Then-s) (unmet (goal.at.returns-else-left-eq0 c).Else-left-eq0) (small (goal.at.returns-else-left-eq0 c).After-settle-s) (room (goal.at.returns-else-left-eq0 c).Else-left-eq0) p.4 (sv (goal.at.returns-else-left-eq0 c).After-settle-s) (room-saved (goal.at.returns-else-left-eq0 c).Else-left-eq0) p.5 c.first_branch.ensures.0, c.first_branch.ensures.1)
+    (stepped_branch (within (goal.at.returns-else-all_met c).After-settle-s) (calmly (goal.at.returns-else-all_met c).Then-s) (unmet (goal.at.returns-else-all_met c).Else-all_met) (small (goal.at.returns-else-all_met c).After-settle-s) (room (goal.at.returns-else-all_met c).Else-all_met) p.4 (sv (goal.at.returns-else-all_met c).After-settle-s) (room-saved (goal.at.returns-else-all_met c).Else-all_met) p.5 c.first_branch.ensures.0, c.first_branch.ensures.1)
 
 pub returns-else-s : goal.returns-else-s
 returns-else-s c =

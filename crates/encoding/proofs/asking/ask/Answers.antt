@@ -13,18 +13,18 @@ returns-then-c-ne0 c =
     let a = c.args in
     (ask-over a.c a.state a.key a.words.now c.requires.room.0 c.if-c-ne0.true, c.requires.indexed)
 
-pub returns-then-at-n : goal.returns-then-at-n
-returns-then-at-n c =
+pub returns-then-found : goal.returns-then-found
+returns-then-found c =
     let a = c.args in
     let f = c.find-at in
-    (ask-old a.c a.state a.key a.words.now c.requires.room.0 c.if-c-ne0.false _ _ f.result refl refl f.ensures c.if-at-n.true, c.requires.indexed)
+    (ask-old a.c a.state a.key a.words.now c.requires.room.0 c.if-c-ne0.false _ _ f.result refl refl f.ensures c.if-found.true, c.requires.indexed)
 
 pub returns-then-n-eq-VARIABLES : goal.returns-then-n-eq-VARIABLES
 returns-then-n-eq-VARIABLES c =
     let a = c.args in
     let f = c.find-at in
     let s = c.spilt in (
-      ask_spilt a.c a.state a.key a.words.now c.requires.room.0 c.if-c-ne0.false _ _ f.result refl refl f.ensures c.if-at-n.false s.result s.ensures c.if-n-eq-VARIABLES.true,
+      ask_spilt a.c a.state a.key a.words.now c.requires.room.0 c.if-c-ne0.false _ _ f.result refl refl f.ensures c.if-found.false s.result s.ensures c.if-n-eq-VARIABLES.true,
       indexed_over a.c s.result a.words.now a.finder.now a.own.now s.ensures c.requires.indexed,
     )
 
@@ -47,7 +47,7 @@ returns c =
     let p = c.requires.room in
     let f = c.find-at in
     let s = c.with_variable in
-    let missed = c.if-at-n.false in (
+    let missed = c.if-found.false in (
       ask-new a.c a.state a.key a.words.now p.0 c.if-c-ne0.false _ _ f.result refl refl f.ensures missed s.result s.ensures c.if-n-eq-VARIABLES.false p.3,
       indexed_new a.c s.result _ _ _ s.ensures
           (c.enter_chain.ensures a.words.now (a.state * 2048 + a.key) (sym c.chain-h.ensures) p.3 (λ k h. f.ensures.before k (omega arith)) c.requires.indexed.chained)

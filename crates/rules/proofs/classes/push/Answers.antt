@@ -21,16 +21,16 @@ three-requires c =
 pub write-requires : goal.write-requires
 write-requires c = (c.ask-x.ensures.0.next.room, c.requires.long.2)
 
-pub returns-then-d-r : goal.returns-then-d-r
-returns-then-d-r c =
+pub returns-then-same_relation : goal.returns-then-same_relation
+returns-then-same_relation c =
     let x = c.ask-x.ensures in
     let w = c.write.ensures in (
-      push-does c.record_at-d.ensures c.requires.room.0 c.if-c-ne0.false c.requires.room.3 c.if-d-s.true c.if-d-r.true x.0 w c.three.ensures,
+      push-does c.record_at-d.ensures c.requires.room.0 c.if-c-ne0.false c.requires.room.3 c.if-d-s.true c.if-same_relation.true x.0 w c.three.ensures,
       indexed_written w x.1,
     )
 
-pub returns-else-d-r : goal.returns-else-d-r
-returns-else-d-r c = (push_skips c.record_at-d.ensures c.requires.room.0 c.if-c-ne0.false c.requires.room.3 (λ x y. c.if-d-r.false y), c.requires.indexed)
+pub returns-else-same_relation : goal.returns-else-same_relation
+returns-else-same_relation c = (push_skips c.record_at-d.ensures c.requires.room.0 c.if-c-ne0.false c.requires.room.3 (λ x y. c.if-same_relation.false y), c.requires.indexed)
 
 pub returns-else-d-s : goal.returns-else-d-s
 returns-else-d-s c = (push_skips c.record_at-d.ensures c.requires.room.0 c.if-c-ne0.false c.requires.room.3 (λ x y. c.if-d-s.false x), c.requires.indexed)
