@@ -11,7 +11,7 @@ cd "$(dirname "$0")/.."
 name=$2
 case $1 in
 program)
-    # `rt run` builds and runs; an empty input is refused by every program here, which is no failure
+    # `rt run` builds and runs; with an empty input and no arguments each program here ends at once and without an error
     (cd "crates/$name" && rt run </dev/null >/dev/null)
     mkdir -p target/bin
     cp "crates/$name/out/$name" "target/bin/$name"

@@ -27,7 +27,7 @@ fn phase1(
     requires sound { Sound book.now offset × (nodes ≡ length (table_of book.now)) }
     requires room { Room c × (s ≤ c.states) }
     requires indexed { Indexed c.variables words.old finder.old own.old }
-    requires max_variables_in_bounds { (max_variables ≤ length words.old) × (3 * max_clauses ≤ length clauses.old) }
+    requires long { (max_variables ≤ length words.old) × (3 * max_clauses ≤ length clauses.old) }
     ensures { Settling s (table_of book.now) c result words.old words.new clauses.old clauses.new
         × Indexed result.variables words.new finder.new own.new }
 {

@@ -23,7 +23,7 @@ fn begin(
     clauses: &mut [i16],
 ) -> Counts
     requires sound { Sound book.now offset × (root < length (table_of book.now)) }
-    requires max_variables_in_bounds { (max_variables ≤ length words.old) × (3 * max_clauses ≤ length clauses.old) }
+    requires long { (max_variables ≤ length words.old) × (3 * max_clauses ≤ length clauses.old) }
     requires indexed { Indexed 0 words.old finder.old own.old }
     ensures { Begins root (table_of book.now) result words.old words.new clauses.old clauses.new
         × Indexed result.variables words.new finder.new own.new }

@@ -87,7 +87,7 @@ fn judge(
     work: &mut [u16],
 ) -> Answer
     requires fit { Fit book.now h }
-    requires work_value { def.enough (lent states.old words.old clauses.old values.old work.old) ≡ true }
+    requires enough { def.enough (lent states.old words.old clauses.old values.old work.old) ≡ true }
     ensures { leaving (told result) (lent states.new words.new clauses.new values.new work.new) ≡ finished budget (built (table_of book.now) h.root) (lent states.old words.old clauses.old values.old work.old) }
 {
     ground::clear_u8(values, Build::VARIABLES);

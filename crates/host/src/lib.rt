@@ -1,4 +1,4 @@
-// The check for hosts: three calls over lent buffers. The crate host_c exports them to C.
+// The calls for hosts: the check's number alone, the check over lent buffers, and the evaluation. The crate host_c exports them to C.
 #![tactic(auto)]
 
 mod publishing;

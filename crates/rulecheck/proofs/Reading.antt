@@ -1,10 +1,10 @@
 -- From what the check promises and what was read to what is printed. Assumes nothing.
-use Rattle.std.proofs.Common.{ℕ, ◌≡◌, ◌<◌, ◌≤◌, List, [], ◌++◌, refl, sym, ap, ◌∙◌, subst, length, take, arith, length-take-le, take_all, append-nil, IfSome, None, Some}
+use Rattle.std.proofs.Common.{ℕ, ◌≡◌, ◌<◌, ◌≤◌, List, ◌++◌, sym, ap, ◌∙◌, subst, length, take, arith, length-take-le, take_all, append-nil, IfSome, None, Some}
 use Rattle.std.specs.declared.option.Option.{Option}
 use Rattle.std.specs.Io.KnownBytes.{Consumes, IsAtEnd}
 use lib.Seq.{take_at}
 use native.Mathlib.Decide.{dec_lt}
-use Rattle.checker.specs.Checked.{Lent, lent, told}
+use Rattle.checker.specs.Checked.{Lent, told}
 use Rattle.checker.specs.Meant.{Promised}
 use Rattle.checker.specs.declared.Answer as code
 use Rattle.rulecheck.specs.Printed.{printed, printed_of, own}

@@ -20,7 +20,7 @@ numbers_marked marks zero = []
 numbers_marked marks (suc a) = numbers_marked marks a ++ cond (on marks a) (codes " " ++ decimal a) []
 
 abbrev pub state_line : ℕ → ℕ → ℕ → List ℕ → List ℕ
-state_line s parent relation atoms = codes "state " ++ (decimal s ++ (codes " " ++ (decimal parent ++ (codes " " ++ decimal relation)))) ++ numbers_marked atoms 256 ++ (10 ∷ [])
+state_line s parent relation atoms = codes "state " ++ (decimal s ++ (codes " " ++ (decimal parent ++ (codes " " ++ decimal relation)))) ++ numbers_marked atoms max_atoms ++ (10 ∷ [])
 
 -- the lines of the states that are marked, of the first n
 unfoldable pub states_marked : List ℕ → (ℕ → List ℕ) → ℕ → List ℕ

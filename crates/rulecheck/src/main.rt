@@ -65,11 +65,11 @@ fn lines<W: Write>(
 {
     match a {
         Answer::Yes(b, n) => {
-            show::verdict(out, b, "yes", n)?;
+            show::verdict(out, b, b"yes", n)?;
             show::structure(out, b, states, words, values)
         }
-        Answer::No(b, n) => show::verdict(out, b, "no", n),
-        Answer::Stopped(b, n) => show::verdict(out, b, "stopped", n),
+        Answer::No(b, n) => show::verdict(out, b, b"no", n),
+        Answer::Stopped(b, n) => show::verdict(out, b, b"stopped", n),
         Answer::Lent => show::refusal(out, 10, 0),
         Answer::Short => show::refusal(out, 11, 0),
         Answer::Ranges => show::refusal(out, 12, 0),

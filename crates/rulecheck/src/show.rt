@@ -15,14 +15,15 @@ pub fn refusal<W: Write>(out: &mut W, number: u64, place: usize) -> io::Result<(
 }
 
 // "First line: states, variables, clauses. Second: yes, no or stopped, and the count."
-pub fn verdict<W: Write>(out: &mut W, b: Build, word: &str, count: u32) -> io::Result<()>
+pub fn verdict<W: Write>(out: &mut W, b: Build, word: &[u8], count: u32) -> io::Result<()>
     ensures { OnOk result (Appends (W.contents out.old) (W.contents out.new) (size_line b.states b.variables b.clauses ++ verdict_line word.now count)) }
 {
     let states = b.states;
     let variables = b.variables;
     let clauses = b.clauses;
     writeln!(out, "size {states} {variables} {clauses}")?;
-    writeln!(out, "{word} {count}")
+    out.write_all(word)?;
+    writeln!(out, " {count}")
 }
 
 // "For yes, each living state by number". One pass over the states, and for each that lives one over the words.

@@ -25,7 +25,7 @@ pub fn conjunctive(
 ) -> Counts
     requires room { Room c × (s ≤ c.states) × (a ≤ max_variables) × (l.key < 2048) × (m.key < 2048) }
     requires indexed { Indexed c.variables words.old finder.old own.old }
-    requires max_variables_in_bounds { (max_variables ≤ length words.old) × (3 * max_clauses ≤ length clauses.old) }
+    requires long { (max_variables ≤ length words.old) × (3 * max_clauses ≤ length clauses.old) }
     ensures { TwoParts class.conjunctive s a l m c result words.old words.new clauses.old clauses.new
         × Indexed result.variables words.new finder.new own.new }
 {
@@ -49,7 +49,7 @@ pub fn disjunctive(
 ) -> Counts
     requires room { Room c × (s ≤ c.states) × (a ≤ max_variables) × (l.key < 2048) × (m.key < 2048) }
     requires indexed { Indexed c.variables words.old finder.old own.old }
-    requires max_variables_in_bounds { (max_variables ≤ length words.old) × (3 * max_clauses ≤ length clauses.old) }
+    requires long { (max_variables ≤ length words.old) × (3 * max_clauses ≤ length clauses.old) }
     ensures { TwoParts class.disjunctive s a l m c result words.old words.new clauses.old clauses.new
         × Indexed result.variables words.new finder.new own.new }
 {

@@ -40,8 +40,8 @@ pub fn rule1(
 ) -> Counts
     requires sound { Sound book.now offset × (nodes ≡ length (table_of book.now)) }
     requires room { Room c × (s ≤ c.states) × (v < c.variables) }
-    requires v_value { (get_or words.old v 0 / 2048 ≡ s) × Indexed c.variables words.old finder.old own.old }
-    requires max_variables_in_bounds { (max_variables ≤ length words.old) × (3 * max_clauses ≤ length clauses.old) }
+    requires indexed { (get_or words.old v 0 / 2048 ≡ s) × Indexed c.variables words.old finder.old own.old }
+    requires long { (max_variables ≤ length words.old) × (3 * max_clauses ≤ length clauses.old) }
     ensures { Asking (λ φ. def.by φ (def.rule1 φ) s v) (table_of book.now) c result words.old words.new clauses.old clauses.new
         × Indexed result.variables words.new finder.new own.new }
 {
@@ -74,7 +74,7 @@ pub fn rule2(
 ) -> Counts
     requires sound { Sound book.now offset × (nodes ≡ length (table_of book.now)) }
     requires room { Room c × (s ≤ c.states) × (v < c.variables) }
-    requires v_value { (get_or words.old v 0 / 2048 ≡ s) × Indexed c.variables words.old finder.old own.old }
+    requires indexed { (get_or words.old v 0 / 2048 ≡ s) × Indexed c.variables words.old finder.old own.old }
     requires long { Long states.old words.old clauses.old }
     ensures { Making s (λ φ. def.by φ (def.rule2 φ) s v) (table_of book.now) c result
         (buffers states.old words.old clauses.old)
@@ -122,7 +122,7 @@ pub fn rule3(
 ) -> Counts
     requires sound { Sound book.now offset × (nodes ≡ length (table_of book.now)) }
     requires room { Room c × (v < c.variables) × (before ≤ c.states) }
-    requires v_value { (get_or words.old v 0 / 2048 ≡ s) × Indexed c.variables words.old finder.old own.old }
+    requires indexed { (get_or words.old v 0 / 2048 ≡ s) × Indexed c.variables words.old finder.old own.old }
     requires long { Long states.now words.old clauses.old }
     requires low { Low states.now × Parents before s states.now }
     ensures { Pushing (λ φ. def.by φ (def.rule3 φ) s v) (table_of book.now) c result

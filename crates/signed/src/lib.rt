@@ -114,7 +114,7 @@ fn binary(
     second: usize,
 ) -> Class
     requires sound { Sound book.now offset }
-    requires first_in_bounds { (first < length (table_of book.now)) × (second < length (table_of book.now)) }
+    requires parts_in_bounds { (first < length (table_of book.now)) × (second < length (table_of book.now)) }
     ensures { Tame result × (result ≡ binary_class (table_of book.now) kind minus first second) }
 {
     let first_part = strip(book, offset, first, first_sign(kind, minus));

@@ -7,7 +7,7 @@ use Rattle.rules.proofs.Moving.{over_asking}
 use Rattle.rules.proofs.rule1.Goals as goal
 
 pub returns-then-c-ne0 : goal.returns-then-c-ne0
-returns-then-c-ne0 c = (over_asking c.requires.room.0 c.if-c-ne0.true (λ φ. by1_less φ c.args.s c.args.v), c.requires.v_value.1)
+returns-then-c-ne0 c = (over_asking c.requires.room.0 c.if-c-ne0.true (λ φ. by1_less φ c.args.s c.args.v), c.requires.indexed.1)
 
 pub role-class-requires-clause-sound : goal.role-class-requires-clause-sound
 role-class-requires-clause-sound c =
@@ -15,7 +15,7 @@ role-class-requires-clause-sound c =
 
 pub role-class-requires-clause-v_in_bounds : goal.role-class-requires-clause-v_in_bounds
 role-class-requires-clause-v_in_bounds c =
-    omega (arith, c.requires.room.2, c.requires.room.0.variables, c.requires.max_variables_in_bounds.0)
+    omega (arith, c.requires.room.2, c.requires.room.0.variables, c.requires.long.0)
 
 pub conjunctive-requires-clause-room : goal.conjunctive-requires-clause-room
 conjunctive-requires-clause-room c =
@@ -24,11 +24,11 @@ conjunctive-requires-clause-room c =
 
 pub conjunctive-requires-clause-indexed : goal.conjunctive-requires-clause-indexed
 conjunctive-requires-clause-indexed c =
-    c.requires.v_value.1
+    c.requires.indexed.1
 
-pub conjunctive-requires-clause-max_variables_in_bounds : goal.conjunctive-requires-clause-max_variables_in_bounds
-conjunctive-requires-clause-max_variables_in_bounds c =
-    c.requires.max_variables_in_bounds
+pub conjunctive-requires-clause-long : goal.conjunctive-requires-clause-long
+conjunctive-requires-clause-long c =
+    c.requires.long
 
 pub disjunctive-requires-clause-room : goal.disjunctive-requires-clause-room
 disjunctive-requires-clause-room c =
@@ -37,30 +37,30 @@ disjunctive-requires-clause-room c =
 
 pub disjunctive-requires-clause-indexed : goal.disjunctive-requires-clause-indexed
 disjunctive-requires-clause-indexed c =
-    c.requires.v_value.1
+    c.requires.indexed.1
 
-pub disjunctive-requires-clause-max_variables_in_bounds : goal.disjunctive-requires-clause-max_variables_in_bounds
-disjunctive-requires-clause-max_variables_in_bounds c =
-    c.requires.max_variables_in_bounds
+pub disjunctive-requires-clause-long : goal.disjunctive-requires-clause-long
+disjunctive-requires-clause-long c =
+    c.requires.long
 
 pub returns-in-Conjunctive : goal.returns-in-Conjunctive
 returns-in-Conjunctive c =
     let y = c.conjunctive.ensures in
-    (arm_conjunctive c.requires.sound.0 c.requires.room.0 c.if-c-ne0.false c.requires.room.2 c.requires.v_value.0 c.role-class.ensures c.in-Conjunctive.is y.0, y.1)
+    (arm_conjunctive c.requires.sound.0 c.requires.room.0 c.if-c-ne0.false c.requires.room.2 c.requires.indexed.0 c.role-class.ensures c.in-Conjunctive.is y.0, y.1)
 
 pub returns-in-Disjunctive : goal.returns-in-Disjunctive
 returns-in-Disjunctive c =
     let y = c.disjunctive.ensures in
-    (arm_disjunctive c.requires.sound.0 c.requires.room.0 c.if-c-ne0.false c.requires.room.2 c.requires.v_value.0 c.role-class.ensures c.in-Disjunctive.is y.0, y.1)
+    (arm_disjunctive c.requires.sound.0 c.requires.room.0 c.if-c-ne0.false c.requires.room.2 c.requires.indexed.0 c.role-class.ensures c.in-Disjunctive.is y.0, y.1)
 
 pub returns-in-Leaf : goal.returns-in-Leaf
 unfolding kind
-returns-in-Leaf c = (rests1 c.requires.sound.0 c.requires.room.0 c.if-c-ne0.false c.requires.room.2 c.requires.v_value.0 c.role-class.ensures 0 (ap kind c.in-Leaf.is) (λ q. omega arith) (λ q. omega arith), c.requires.v_value.1)
+returns-in-Leaf c = (rests1 c.requires.sound.0 c.requires.room.0 c.if-c-ne0.false c.requires.room.2 c.requires.indexed.0 c.role-class.ensures 0 (ap kind c.in-Leaf.is) (λ q. omega arith) (λ q. omega arith), c.requires.indexed.1)
 
 pub returns-in-Existential : goal.returns-in-Existential
 unfolding kind
-returns-in-Existential c = (rests1 c.requires.sound.0 c.requires.room.0 c.if-c-ne0.false c.requires.room.2 c.requires.v_value.0 c.role-class.ensures 3 (ap kind c.in-Existential.is) (λ q. omega arith) (λ q. omega arith), c.requires.v_value.1)
+returns-in-Existential c = (rests1 c.requires.sound.0 c.requires.room.0 c.if-c-ne0.false c.requires.room.2 c.requires.indexed.0 c.role-class.ensures 3 (ap kind c.in-Existential.is) (λ q. omega arith) (λ q. omega arith), c.requires.indexed.1)
 
 pub returns-in-Universal : goal.returns-in-Universal
 unfolding kind
-returns-in-Universal c = (rests1 c.requires.sound.0 c.requires.room.0 c.if-c-ne0.false c.requires.room.2 c.requires.v_value.0 c.role-class.ensures 4 (ap kind c.in-Universal.is) (λ q. omega arith) (λ q. omega arith), c.requires.v_value.1)
+returns-in-Universal c = (rests1 c.requires.sound.0 c.requires.room.0 c.if-c-ne0.false c.requires.room.2 c.requires.indexed.0 c.role-class.ensures 4 (ap kind c.in-Universal.is) (λ q. omega arith) (λ q. omega arith), c.requires.indexed.1)

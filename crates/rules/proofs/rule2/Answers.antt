@@ -7,7 +7,7 @@ use Rattle.rules.proofs.Moving.{over-making}
 use Rattle.rules.proofs.rule2.Goals as goal
 
 pub returns-then-c-ne0 : goal.returns-then-c-ne0
-returns-then-c-ne0 c = (over-making c.requires.room.0 c.if-c-ne0.true (λ φ. by2_less φ c.args.s c.args.v), c.requires.v_value.1)
+returns-then-c-ne0 c = (over-making c.requires.room.0 c.if-c-ne0.true (λ φ. by2_less φ c.args.s c.args.v), c.requires.indexed.1)
 
 pub role-class-requires-clause-sound : goal.role-class-requires-clause-sound
 role-class-requires-clause-sound c =
@@ -24,7 +24,7 @@ existential-requires-clause-room c =
 
 pub existential-requires-clause-indexed : goal.existential-requires-clause-indexed
 existential-requires-clause-indexed c =
-    c.requires.v_value.1
+    c.requires.indexed.1
 
 pub existential-requires-clause-long : goal.existential-requires-clause-long
 existential-requires-clause-long c =
@@ -33,20 +33,20 @@ existential-requires-clause-long c =
 pub returns-in-Existential : goal.returns-in-Existential
 returns-in-Existential c =
     let y = c.existential.ensures in
-    (arm_existential c.requires.sound.0 c.requires.room.0 c.if-c-ne0.false c.requires.room.2 c.requires.v_value.0 c.role-class.ensures c.in-Existential.is y.0, y.1)
+    (arm_existential c.requires.sound.0 c.requires.room.0 c.if-c-ne0.false c.requires.room.2 c.requires.indexed.0 c.role-class.ensures c.in-Existential.is y.0, y.1)
 
 pub returns-in-Leaf : goal.returns-in-Leaf
 unfolding kind
-returns-in-Leaf c = (rests2 c.requires.sound.0 c.requires.room.0 c.if-c-ne0.false c.requires.room.2 c.requires.v_value.0 c.role-class.ensures 0 (ap kind c.in-Leaf.is) (λ q. omega arith), c.requires.v_value.1)
+returns-in-Leaf c = (rests2 c.requires.sound.0 c.requires.room.0 c.if-c-ne0.false c.requires.room.2 c.requires.indexed.0 c.role-class.ensures 0 (ap kind c.in-Leaf.is) (λ q. omega arith), c.requires.indexed.1)
 
 pub returns-in-Conjunctive : goal.returns-in-Conjunctive
 unfolding kind
-returns-in-Conjunctive c = (rests2 c.requires.sound.0 c.requires.room.0 c.if-c-ne0.false c.requires.room.2 c.requires.v_value.0 c.role-class.ensures 1 (ap kind c.in-Conjunctive.is) (λ q. omega arith), c.requires.v_value.1)
+returns-in-Conjunctive c = (rests2 c.requires.sound.0 c.requires.room.0 c.if-c-ne0.false c.requires.room.2 c.requires.indexed.0 c.role-class.ensures 1 (ap kind c.in-Conjunctive.is) (λ q. omega arith), c.requires.indexed.1)
 
 pub returns-in-Disjunctive : goal.returns-in-Disjunctive
 unfolding kind
-returns-in-Disjunctive c = (rests2 c.requires.sound.0 c.requires.room.0 c.if-c-ne0.false c.requires.room.2 c.requires.v_value.0 c.role-class.ensures 2 (ap kind c.in-Disjunctive.is) (λ q. omega arith), c.requires.v_value.1)
+returns-in-Disjunctive c = (rests2 c.requires.sound.0 c.requires.room.0 c.if-c-ne0.false c.requires.room.2 c.requires.indexed.0 c.role-class.ensures 2 (ap kind c.in-Disjunctive.is) (λ q. omega arith), c.requires.indexed.1)
 
 pub returns-in-Universal : goal.returns-in-Universal
 unfolding kind
-returns-in-Universal c = (rests2 c.requires.sound.0 c.requires.room.0 c.if-c-ne0.false c.requires.room.2 c.requires.v_value.0 c.role-class.ensures 4 (ap kind c.in-Universal.is) (λ q. omega arith), c.requires.v_value.1)
+returns-in-Universal c = (rests2 c.requires.sound.0 c.requires.room.0 c.if-c-ne0.false c.requires.room.2 c.requires.indexed.0 c.role-class.ensures 4 (ap kind c.in-Universal.is) (λ q. omega arith), c.requires.indexed.1)

@@ -27,7 +27,7 @@ returns-then-i-nodes c = (tt, tells_out _ _ c.if-key-ge-FIRST_ATOM.false (omega 
 pub binary-requires : goal.binary-requires
 binary-requires c =
     let k = numbers-kept (record-read (goal.at.binary-requires c).After-relation-relation) in
-    record { sound = c.requires.sound.0; first_in_bounds = (omega (arith, k.child (omega arith)), omega (arith, k.second (omega arith) (omega arith))) }
+    record { sound = c.requires.sound.0; parts_in_bounds = (omega (arith, k.child (omega arith)), omega (arith, k.second (omega arith) (omega arith))) }
 
 pub modal-requires : goal.modal-requires
 modal-requires c =

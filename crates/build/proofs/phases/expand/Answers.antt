@@ -20,8 +20,8 @@ pub phase1-d-requires-clause-indexed : goal.phase1-d-requires-clause-indexed
 phase1-d-requires-clause-indexed c =
     c.requires.indexed
 
-pub phase1-d-requires-clause-max_variables_in_bounds : goal.phase1-d-requires-clause-max_variables_in_bounds
-phase1-d-requires-clause-max_variables_in_bounds c =
+pub phase1-d-requires-clause-long : goal.phase1-d-requires-clause-long
+phase1-d-requires-clause-long c =
     (c.requires.long.1, c.requires.long.2)
 
 pub phase2-e-requires-clause-sound : goal.phase2-e-requires-clause-sound

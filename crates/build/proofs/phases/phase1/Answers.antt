@@ -38,19 +38,19 @@ rule1-d-requires-clause-room c =
     let taken = c.loop-v-test.true in
     (next.room, omega (arith, c.requires.room.1, next.states), taken)
 
-pub rule1-d-requires-clause-v_value : goal.rule1-d-requires-clause-v_value
-rule1-d-requires-clause-v_value c =
+pub rule1-d-requires-clause-indexed : goal.rule1-d-requires-clause-indexed
+rule1-d-requires-clause-indexed c =
     let inv = c.loop-v.invariant in
     let next = inv.0.next in
     let taken = c.loop-v-test.true in
     (inv.7 taken, inv.5)
 
-pub rule1-d-requires-clause-max_variables_in_bounds : goal.rule1-d-requires-clause-max_variables_in_bounds
-rule1-d-requires-clause-max_variables_in_bounds c =
+pub rule1-d-requires-clause-long : goal.rule1-d-requires-clause-long
+rule1-d-requires-clause-long c =
     let inv = c.loop-v.invariant in
     let next = inv.0.next in
     let taken = c.loop-v-test.true in
-    (omega (arith, c.requires.max_variables_in_bounds.0, inv.1), omega (arith, c.requires.max_variables_in_bounds.1, inv.2))
+    (omega (arith, c.requires.long.0, inv.1), omega (arith, c.requires.long.1, inv.2))
 
 pub next_of-v-requires : goal.next_of-v-requires
 next_of-v-requires c =

@@ -40,8 +40,8 @@ rule2-d-requires-clause-room c =
     let long = c.requires.long in
     let taken = c.loop-v-test.true in (next.room, omega (arith, c.requires.room.1, next.states), omega (arith, taken, next.variables))
 
-pub rule2-d-requires-clause-v_value : goal.rule2-d-requires-clause-v_value
-rule2-d-requires-clause-v_value c =
+pub rule2-d-requires-clause-indexed : goal.rule2-d-requires-clause-indexed
+rule2-d-requires-clause-indexed c =
     let inv = c.loop-v.invariant in
     let next = inv.1.next in
     let long = c.requires.long in

@@ -42,8 +42,8 @@ rule3-d-requires-clause-room c =
     let long = c.requires.long in
     let taken = c.loop-v-test.true in (next.room, omega (arith, taken, next.variables), omega (arith, c.requires.room.2, next.states))
 
-pub rule3-d-requires-clause-v_value : goal.rule3-d-requires-clause-v_value
-rule3-d-requires-clause-v_value c =
+pub rule3-d-requires-clause-indexed : goal.rule3-d-requires-clause-indexed
+rule3-d-requires-clause-indexed c =
     let inv = c.loop-v.invariant in
     let next = inv.1.next in
     let long = c.requires.long in

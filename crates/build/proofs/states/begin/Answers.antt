@@ -14,7 +14,7 @@ use Rattle.build.proofs.states.begin.Goals as goal
 pub ask-x-requires-clause-room : goal.ask-x-requires-clause-room
 ask-x-requires-clause-room c =
     let a = c.args in
-    let e = c.start.ensures in (rw e (record { states = omega arith; variables = omega arith; clauses = omega arith }), omega (arith, ap (λ (z : Counts). z.states) e), c.strip-l.ensures.1, c.requires.max_variables_in_bounds.0)
+    let e = c.start.ensures in (rw e (record { states = omega arith; variables = omega arith; clauses = omega arith }), omega (arith, ap (λ (z : Counts). z.states) e), c.strip-l.ensures.1, c.requires.long.0)
 
 pub ask-x-requires-clause-indexed : goal.ask-x-requires-clause-indexed
 ask-x-requires-clause-indexed c =
@@ -22,7 +22,7 @@ ask-x-requires-clause-indexed c =
     let e = c.start.ensures in subst (λ (z : Counts). Indexed z.variables a.words.now a.finder.now a.own.now) (sym e) c.requires.indexed
 
 pub write-requires : goal.write-requires
-write-requires c = (c.ask-x.ensures.0.next.room, c.requires.max_variables_in_bounds.1)
+write-requires c = (c.ask-x.ensures.0.next.room, c.requires.long.1)
 
 pub returns : goal.returns
 returns c =

@@ -12,8 +12,8 @@ pub begin-d-requires-clause-sound : goal.begin-d-requires-clause-sound
 begin-d-requires-clause-sound c =
     (c.requires.sound.0, c.requires.root_in_bounds)
 
-pub begin-d-requires-clause-max_variables_in_bounds : goal.begin-d-requires-clause-max_variables_in_bounds
-begin-d-requires-clause-max_variables_in_bounds c =
+pub begin-d-requires-clause-long : goal.begin-d-requires-clause-long
+begin-d-requires-clause-long c =
     (c.requires.long.1, c.requires.long.2)
 
 pub begin-d-requires-clause-indexed : goal.begin-d-requires-clause-indexed

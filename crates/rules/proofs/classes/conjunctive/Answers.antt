@@ -13,7 +13,7 @@ pub two-requires : goal.two-requires
 two-requires c = (omega (arith, c.requires.room.2), omega (arith, c.ask-x.ensures.0.variable))
 
 pub write-d-requires : goal.write-d-requires
-write-d-requires c = (c.ask-y.ensures.0.next.room, c.requires.max_variables_in_bounds.1)
+write-d-requires c = (c.ask-y.ensures.0.next.room, c.requires.long.1)
 
 pub two-requires-2 : goal.two-requires-2
 two-requires-2 c = (omega (arith, c.requires.room.2), omega (arith, c.ask-y.ensures.0.variable))

@@ -13,7 +13,7 @@ pub three-requires : goal.three-requires
 three-requires c = (omega (arith, c.requires.room.2), omega (arith, c.ask-x.ensures.0.variable), omega (arith, c.ask-y.ensures.0.variable))
 
 pub write-requires : goal.write-requires
-write-requires c = (c.ask-y.ensures.0.next.room, c.requires.max_variables_in_bounds.1)
+write-requires c = (c.ask-y.ensures.0.next.room, c.requires.long.1)
 
 pub returns : goal.returns
 returns c =
