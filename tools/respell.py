@@ -1,6 +1,8 @@
 #!/usr/bin/env python3
 """Brings the repository's own antt names to the library's spelling, by text, once, after the port's scripts.
 
+It was run once (docs/PORT.md) and is kept so that the step can be made again from the same commit; on files that it has turned it would go on turning.
+
 usage: respell.py [--dry] [--table FILE]      at the top of the repository; FILE has spellings that were chosen before, old TAB new a line
 
  - a definition in camelCase becomes snake_case (`entryFor`: `entry_for`); one whose value is a type is a fact and becomes UpperCamelCase
