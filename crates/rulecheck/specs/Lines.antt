@@ -5,14 +5,22 @@ use Rattle.encoding.specs.Limits.{max_states}
 use Rattle.structure.specs.Evaluation.{max_atoms}
 use Rattle.structure.specs.Marks.{on, lives_fit, lives_marked, atoms_fit, atoms_marked, edge_of, record_of}
 
+-- each number after a space, and the end of a line
+unfoldable pub spaced : List ℕ → List ℕ
+spaced [] = []
+spaced (n ∷ ns) = (codes " " ++ decimal n) ++ spaced ns
+
+abbrev pub newline : List ℕ
+newline = 10 ∷ []
+
 abbrev pub refusal_line : ℕ → ℕ → List ℕ
-refusal_line number place = codes "refused " ++ (decimal number ++ (codes " " ++ decimal place)) ++ (10 ∷ [])
+refusal_line number place = (codes "refused" ++ spaced (number ∷ place ∷ [])) ++ newline
 
 abbrev pub size_line : ℕ → ℕ → ℕ → List ℕ
-size_line states variables clauses = codes "size " ++ (decimal states ++ (codes " " ++ (decimal variables ++ (codes " " ++ decimal clauses)))) ++ (10 ∷ [])
+size_line states variables clauses = (codes "size" ++ spaced (states ∷ variables ∷ clauses ∷ [])) ++ newline
 
 abbrev pub verdict_line : List ℕ → ℕ → List ℕ
-verdict_line word count = word ++ (codes " " ++ decimal count) ++ (10 ∷ [])
+verdict_line word count = (word ++ spaced (count ∷ [])) ++ newline
 
 -- the numbers below n that are marked, ascending, each after a space
 unfoldable pub numbers_marked : List ℕ → ℕ → List ℕ
@@ -20,7 +28,7 @@ numbers_marked marks zero = []
 numbers_marked marks (suc a) = numbers_marked marks a ++ cond (on marks a) (codes " " ++ decimal a) []
 
 abbrev pub state_line : ℕ → ℕ → ℕ → List ℕ → List ℕ
-state_line s parent relation atoms = codes "state " ++ (decimal s ++ (codes " " ++ (decimal parent ++ (codes " " ++ decimal relation)))) ++ numbers_marked atoms max_atoms ++ (10 ∷ [])
+state_line s parent relation atoms = (codes "state" ++ spaced (s ∷ parent ∷ relation ∷ [])) ++ (numbers_marked atoms max_atoms ++ newline)
 
 -- the lines of the states that are marked, of the first n
 unfoldable pub states_marked : List ℕ → (ℕ → List ℕ) → ℕ → List ℕ

@@ -1,8 +1,9 @@
 // The program: a book on standard input, its answer on standard output, as document 01 prints it.
 #![tactic(auto)]
 
-ghost use Rattle.std.specs.Prelude.{OnOk, IfSome};
+ghost use Rattle.std.specs.Prelude.{OnOk, OnErr, IfSome};
 ghost use Rattle.std.specs.Io.KnownBytes.{Appends};
+ghost use Rattle.streams.specs.Writing.{Begins};
 ghost use Rattle.checker.specs.Checked.{told};
 ghost use Rattle.rulecheck.specs.Printed.{printed, printed_of, printed_for};
 
@@ -26,7 +27,8 @@ fn main(rt: HostRuntime) -> io::Result<()> {
 
 // Reads a book and prints its answer.
 fn run<R: Read, W: Write>(input: &mut R, out: &mut W) -> io::Result<()>
-    ensures { OnOk result (IfSome (R.remaining input.old) (λ xs. Appends (W.contents out.old) (W.contents out.new) (printed_for xs))) }
+    ensures written { OnOk result (IfSome (R.remaining input.old) (λ xs. Appends (W.contents out.old) (W.contents out.new) (printed_for xs))) }
+    ensures error { OnErr result (IfSome (R.remaining input.old) (λ xs. Begins (W.contents out.old) (W.contents out.new) (printed_for xs))) }
 {
     let mut book = [0u8; MOST];
     let n = read_full(input, &mut book)?;
@@ -34,7 +36,8 @@ fn run<R: Read, W: Write>(input: &mut R, out: &mut W) -> io::Result<()>
 }
 
 fn answer<W: Write>(out: &mut W, book: &[u8]) -> io::Result<()>
-    ensures { OnOk result (Appends (W.contents out.old) (W.contents out.new) (printed_of book.now)) }
+    ensures written { OnOk result (Appends (W.contents out.old) (W.contents out.new) (printed_of book.now)) }
+    ensures error { OnErr result (Begins (W.contents out.old) (W.contents out.new) (printed_of book.now)) }
 {
     let mut states = [0u16; 3 * Build::STATES];
     let mut words = [0u32; Build::VARIABLES];
@@ -61,7 +64,8 @@ fn lines<W: Write>(
     words: &[u32],
     values: &[u8],
 ) -> io::Result<()>
-    ensures { OnOk result (Appends (W.contents out.old) (W.contents out.new) (printed (told a) states.now words.now values.now)) }
+    ensures written { OnOk result (Appends (W.contents out.old) (W.contents out.new) (printed (told a) states.now words.now values.now)) }
+    ensures error { OnErr result (Begins (W.contents out.old) (W.contents out.new) (printed (told a) states.now words.now values.now)) }
 {
     match a {
         Answer::Yes(b, n) => {

@@ -1,33 +1,42 @@
 // The lines that the program prints.
-ghost use Rattle.std.specs.Prelude.{◌++◌, OnOk};
+ghost use Rattle.std.specs.Prelude.{◌++◌, OnOk, OnErr, codes, decimal};
 ghost use Rattle.std.specs.Io.KnownBytes.{Appends};
-ghost use Rattle.rulecheck.specs.Lines.{refusal_line, size_line, verdict_line, numbers_marked, line_of, structure_lines};
+ghost use Rattle.encoding.specs.Limits.{max_states};
+ghost use Rattle.streams.specs.Writing.{Begins};
+ghost use Rattle.rulecheck.specs.Lines.{spaced, newline, refusal_line, size_line, verdict_line, numbers_marked, states_marked, state_line, line_of, structure_lines};
 
 use encoding::Build;
 use std::io;
 use std::io::Write;
+use streams::write_full;
+use structure::Edge;
 
 // "refused, number, place"
 pub fn refusal<W: Write>(out: &mut W, number: u64, place: usize) -> io::Result<()>
-    ensures { OnOk result (Appends (W.contents out.old) (W.contents out.new) (refusal_line number place)) }
+    ensures written { OnOk result (Appends (W.contents out.old) (W.contents out.new) (refusal_line number place)) }
+    ensures error { OnErr result (Begins (W.contents out.old) (W.contents out.new) (refusal_line number place)) }
 {
-    writeln!(out, "refused {number} {place}")
+    begin(out, b"refused", &[number, place as u64])?;
+    end(out)
 }
 
 // "First line: states, variables, clauses. Second: yes, no or stopped, and the count."
 pub fn verdict<W: Write>(out: &mut W, b: Build, word: &[u8], count: u32) -> io::Result<()>
-    ensures { OnOk result (Appends (W.contents out.old) (W.contents out.new) (size_line b.states b.variables b.clauses ++ verdict_line word.now count)) }
+    ensures written { OnOk result (Appends (W.contents out.old) (W.contents out.new) (size_line b.states b.variables b.clauses ++ verdict_line word.now count)) }
+    ensures error { OnErr result (Begins (W.contents out.old) (W.contents out.new) (size_line b.states b.variables b.clauses ++ verdict_line word.now count)) }
 {
-    let states = b.states;
-    let variables = b.variables;
-    let clauses = b.clauses;
-    writeln!(out, "size {states} {variables} {clauses}")?;
-    out.write_all(word)?;
-    writeln!(out, " {count}")
+    begin(
+        out,
+        b"size",
+        &[b.states as u64, b.variables as u64, b.clauses as u64],
+    )?;
+    end(out)?;
+    begin(out, word, &[count as u64])?;
+    end(out)
 }
 
 // "For yes, each living state by number". One pass over the states, and for each that lives one over the words.
-#[tactic(auto, using(crate::proofs::Written::appends_none, crate::proofs::Written::state_none, crate::proofs::Written::state_put, crate::proofs::Written::state_passed), unfolding(crate::specs::Lines::lives_at))]
+#[tactic(auto, unfolding(crate::specs::Lines::lives_at))]
 pub fn structure<W: Write>(
     out: &mut W,
     b: Build,
@@ -35,12 +44,29 @@ pub fn structure<W: Write>(
     words: &[u32],
     values: &[u8],
 ) -> io::Result<()>
-    ensures { OnOk result (Appends (W.contents out.old) (W.contents out.new) (structure_lines b.states states.now b.variables words.now values.now)) }
+    ensures written { OnOk result (Appends (W.contents out.old) (W.contents out.new) (structure_lines b.states states.now b.variables words.now values.now)) }
+    ensures error { OnErr result (Begins (W.contents out.old) (W.contents out.new) (structure_lines b.states states.now b.variables words.now values.now)) }
 {
     let mut lives = [0u8; Build::STATES];
     structure::mark_living(states, b.states, values, b.variables, &mut lives);
+    living(out, b, states, words, values, &lives)
+}
+
+// The lines of the states that are marked.
+#[tactic(auto, using(crate::proofs::Written::appends_none, crate::proofs::Written::state_none, crate::proofs::Written::state_put, crate::proofs::Written::state_passed))]
+fn living<W: Write>(
+    out: &mut W,
+    b: Build,
+    states: &[u16],
+    words: &[u32],
+    values: &[u8],
+    lives: &[u8; Build::STATES],
+) -> io::Result<()>
+    ensures written { OnOk result (Appends (W.contents out.old) (W.contents out.new) (states_marked lives.now (line_of b.states states.now b.variables words.now values.now) max_states)) }
+    ensures error { OnErr result (Begins (W.contents out.old) (W.contents out.new) (states_marked lives.now (line_of b.states states.now b.variables words.now values.now) max_states)) }
+{
     for s in 0..Build::STATES {
-        if structure::marked(&lives, s) {
+        if structure::marked(lives, s) {
             state(out, b, states, words, values, s + 1)?;
         }
     }
@@ -57,27 +83,68 @@ fn state<W: Write>(
     values: &[u8],
     s: usize,
 ) -> io::Result<()>
-    ensures { OnOk result (Appends (W.contents out.old) (W.contents out.new) (line_of b.states states.now b.variables words.now values.now s)) }
+    ensures written { OnOk result (Appends (W.contents out.old) (W.contents out.new) (line_of b.states states.now b.variables words.now values.now s)) }
+    ensures error { OnErr result (Begins (W.contents out.old) (W.contents out.new) (line_of b.states states.now b.variables words.now values.now s)) }
 {
     let edge = structure::edge_to(states, b.states, s);
     let mut atoms = [0u8; 256];
     structure::mark_atoms(words, b.variables, values, s, &mut atoms);
-    let parent = edge.parent;
-    let relation = edge.relation;
-    write!(out, "state {s} {parent} {relation}")?;
-    put_marked(out, &atoms)?;
-    writeln!(out)
+    line(out, s, edge, &atoms)
+}
+
+fn line<W: Write>(out: &mut W, s: usize, edge: Edge, atoms: &[u8; 256]) -> io::Result<()>
+    ensures written { OnOk result (Appends (W.contents out.old) (W.contents out.new) (state_line s edge.parent edge.relation atoms.now)) }
+    ensures error { OnErr result (Begins (W.contents out.old) (W.contents out.new) (state_line s edge.parent edge.relation atoms.now)) }
+{
+    begin(
+        out,
+        b"state",
+        &[s as u64, edge.parent as u64, edge.relation as u64],
+    )?;
+    put_marked(out, atoms)?;
+    end(out)
 }
 
 // The marked numbers ascending, each after a space.
 #[tactic(auto, using(crate::proofs::Written::appends_none, crate::proofs::Written::number_none, crate::proofs::Written::number_put, crate::proofs::Written::number_passed))]
 fn put_marked<W: Write>(out: &mut W, marks: &[u8; 256]) -> io::Result<()>
-    ensures { OnOk result (Appends (W.contents out.old) (W.contents out.new) (numbers_marked marks.now 256)) }
+    ensures written { OnOk result (Appends (W.contents out.old) (W.contents out.new) (numbers_marked marks.now 256)) }
+    ensures error { OnErr result (Begins (W.contents out.old) (W.contents out.new) (numbers_marked marks.now 256)) }
 {
     for a in 0..256 {
         if structure::marked(marks, a) {
-            write!(out, " {a}")?;
+            put(out, a as u64)?;
         }
     }
     Ok(())
+}
+
+// The beginning of a line: a word, and each number after a space.
+fn begin<W: Write>(out: &mut W, word: &[u8], numbers: &[u64]) -> io::Result<()>
+    ensures written { OnOk result (Appends (W.contents out.old) (W.contents out.new) (word.now ++ spaced numbers.now)) }
+    ensures error { OnErr result (Begins (W.contents out.old) (W.contents out.new) (word.now ++ spaced numbers.now)) }
+{
+    write_full(out, word)?;
+    for n in numbers {
+        put(out, *n)?;
+    }
+    Ok(())
+}
+
+// A space and a number.
+fn put<W: Write>(out: &mut W, n: u64) -> io::Result<()>
+    ensures written { OnOk result (Appends (W.contents out.old) (W.contents out.new) (codes " " ++ decimal n)) }
+    ensures error { OnErr result (Begins (W.contents out.old) (W.contents out.new) (codes " " ++ decimal n)) }
+{
+    let mut digits = itoa::Buffer::new();
+    write_full(out, b" ")?;
+    write_full(out, digits.format(n).as_bytes())
+}
+
+// The end of a line.
+fn end<W: Write>(out: &mut W) -> io::Result<()>
+    ensures written { OnOk result (Appends (W.contents out.old) (W.contents out.new) newline) }
+    ensures error { OnErr result (Begins (W.contents out.old) (W.contents out.new) newline) }
+{
+    write_full(out, b"\n")
 }

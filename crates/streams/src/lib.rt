@@ -1,11 +1,12 @@
-// Whole inputs, over std's readers.
+// Whole inputs and whole texts, over std's readers and writers, with what an error leaves.
 #![tactic(auto)]
 
-ghost use Rattle.std.specs.Prelude.{◌≤◌, ◌<◌, length, take, IfOk, OnErr, ℕ};
-ghost use Rattle.std.specs.Io.KnownBytes.{Consumes, IsAtEnd};
+ghost use Rattle.std.specs.Prelude.{◌≤◌, ◌<◌, length, take, IfOk, OnOk, OnErr, ℕ};
+ghost use Rattle.std.specs.Io.KnownBytes.{Appends, Consumes, IsAtEnd};
+ghost use Rattle.streams.specs.Writing.{Begins};
 
 use std::io;
-use std::io::Read;
+use std::io::{ErrorKind, Read, Write};
 
 // Reads until `buf` is full or the input ends, and says how many bytes stand at the start of `buf`.
 pub fn read_full<R: Read>(reader: &mut R, buf: &mut [u8]) -> io::Result<usize>
@@ -23,4 +24,19 @@ pub fn read_full<R: Read>(reader: &mut R, buf: &mut [u8]) -> io::Result<usize>
         done += n;
     }
     Ok(done)
+}
+
+// Writes the whole of `text`. After an error a beginning of it is written.
+pub fn write_full<W: Write>(writer: &mut W, text: &[u8]) -> io::Result<()>
+    ensures written { OnOk result (Appends (W.contents writer.old) (W.contents writer.new) text.now) }
+    ensures error { OnErr result (Begins (W.contents writer.old) (W.contents writer.new) text.now) }
+{
+    let mut done = 0;
+    while done < text.len() {
+        match writer.write(&text[done..])? {
+            0 => return Err(io::Error::from(ErrorKind::WriteZero)),
+            n => done += n,
+        }
+    }
+    Ok(())
 }

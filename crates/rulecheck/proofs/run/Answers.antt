@@ -1,13 +1,21 @@
+use Rattle.streams.specs.Writing.{Begins}
 use Rattle.std.specs.Io.KnownBytes.{Appends}
 use Rattle.std.proofs.Common.{List, ℕ}
-use Rattle.std.proofs.lemmas.Result.{on_ok_weaker}
+use Rattle.std.proofs.lemmas.Result.{on_ok_weaker, on_err_weaker}
 use Rattle.rulecheck.specs.Printed.{printed_of}
 use Rattle.rulecheck.proofs.Reading.{whole_read}
 use Rattle.rulecheck.proofs.run.Goals as goal
 
-pub returns : goal.returns
-returns g c =
+pub returns-clause-written : goal.returns-clause-written
+returns-clause-written g c =
     let P : List ℕ → Type 0 = λ bs. Appends (g.W.Write.contents c.args.out.now) (g.W.Write.contents c.answer.new.out) (printed_of bs) in
     on_ok_weaker c.answer.result
     (λ p. whole_read _ _ c.in_ok-n.n c.read_full.new.buf P c.read_full.auto.buf c.in_ok-n.ensures.in_bounds c.in_ok-n.ensures.bytes c.in_ok-n.ensures.end p)
-    c.answer.ensures
+    c.answer.ensures.written
+
+pub returns-clause-error : goal.returns-clause-error
+returns-clause-error g c =
+    let P : List ℕ → Type 0 = λ bs. Begins (g.W.Write.contents c.args.out.now) (g.W.Write.contents c.answer.new.out) (printed_of bs) in
+    on_err_weaker c.answer.result
+    (λ p. whole_read _ _ c.in_ok-n.n c.read_full.new.buf P c.read_full.auto.buf c.in_ok-n.ensures.in_bounds c.in_ok-n.ensures.bytes c.in_ok-n.ensures.end p)
+    c.answer.ensures.error

@@ -1,6 +1,6 @@
 use Rattle.std.specs.Io.KnownBytes.{Appends}
 use Rattle.rulecheck.specs.Lines.{line_of, states_marked}
-use Rattle.rulecheck.proofs.show.structure.Given as goal
+use Rattle.rulecheck.proofs.show.living.Given as goal
 
 abbrev pub invariant-loop-s : goal.invariant-loop-s
 invariant-loop-s g l = Appends (g.W.Write.contents l.fn.out) (g.W.Write.contents l.out) (states_marked l.lives (line_of l.b.states l.states l.b.variables l.words l.values) l.s)
