@@ -1,13 +1,16 @@
 -- From what the check promises and what was read to what is printed. Assumes nothing.
-use Rattle.std.proofs.Common.{ℕ, ◌≡◌, ◌<◌, ◌≤◌, List, ◌++◌, sym, ap, ◌∙◌, subst, length, take, arith, length-take-le, take_all, append-nil, IfSome, None, Some}
+use Rattle.std.proofs.Common.{ℕ, Bool, true, false, cond, eqb, ◌≡◌, ◌<◌, ◌≤◌, List, ◌++◌, sym, ap, ◌∙◌, subst, length, take, arith, length-take-le, take_all, append-nil, IfSome, None, Some}
 use Rattle.std.specs.declared.option.Option.{Option}
 use Rattle.std.specs.Io.KnownBytes.{Consumes, IsAtEnd}
+use Rattle.std.proofs.KnownBytes.{Appends-nil}
+use Rattle.streams.specs.Writing.{Begins}
+use Rattle.meaning.specs.Answers.{Answer}
 use lib.Seq.{take_at}
 use native.Mathlib.Decide.{dec_lt}
-use Rattle.checker.specs.Checked.{Lent, told}
+use Rattle.checker.specs.Checked.{Lent, told, checked}
 use Rattle.checker.specs.Meant.{Promised}
 use Rattle.checker.specs.declared.Answer as code
-use Rattle.rulecheck.specs.Printed.{printed, printed_of, own}
+use Rattle.rulecheck.specs.Printed.{printed, printed_of, printed_for, own}
 
 pub told_printed : (bs : List ℕ) (o' : Lent) (a : code.Answer) → Promised bs 1000000 own o' a → printed_of bs ≡ printed (told a) o'.states o'.words o'.values
 unfolding printed_of
@@ -28,3 +31,23 @@ whole_read (Some xs) (Some ys) n buf P l h c e p = subst P (sym same) p
 
     same : take 8193 xs ≡ take n buf
     same = ap (take 8193) c ∙ go (dec_lt n (length buf))
+
+-- something is printed of every book
+some_of : (x y z : Bool) (a b c d : List ℕ) → 0 < length a → 0 < length b → 0 < length c → 0 < length d → 0 < length (cond x a (cond y b (cond z c d)))
+some_of true y z a b c d p q r s = p
+some_of false true z a b c d p q r s = q
+some_of false false true a b c d p q r s = r
+some_of false false false a b c d p q r s = s
+
+some_printed : (a : Answer) (st ws vs : List ℕ) → 0 < length (printed a st ws vs)
+unfolding printed
+some_printed a st ws vs = some_of (eqb a.number 1) (eqb a.number 2) (eqb a.number 3) _ _ _ _ (omega arith) (omega arith) (omega arith) (omega arith)
+
+some_of_book : (bs : List ℕ) → 0 < length (printed_of bs)
+unfolding printed_of
+some_of_book bs = let k = checked bs 1000000 own in some_printed k.answer k.lent.states k.lent.words k.lent.values
+
+-- nothing is written, which is a beginning of it
+pub none_printed : (a old : Option (List ℕ)) → IfSome old (λ xs. Begins a a (printed_for xs))
+none_printed a None = tt
+none_printed a (Some xs) = record { n = 0; short = some_of_book (take 8193 xs); written = Appends-nil a }

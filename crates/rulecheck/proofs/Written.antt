@@ -1,7 +1,6 @@
 -- One write after another. Assumes nothing.
 use Rattle.std.specs.declared.option.Option.{Option}
-use Rattle.std.proofs.Common.{ℕ, zero, suc, ◌≡◌, ◌+◌, ◌-◌, ◌<◌, true, false, cond, List, [], ◌∷◌, ◌++◌, refl, sym, ap, ◌∙◌, subst, min, arith, length, take, drop, get_or, append_assoc, take-append-drop, Result, Ok, Err, OnErr, append-nil, add-one, codes}
-use Rattle.std.proofs.lemmas.List.{take_min}
+use Rattle.std.proofs.Common.{ℕ, zero, suc, ◌≡◌, ◌+◌, ◌-◌, ◌<◌, true, false, cond, List, [], ◌∷◌, ◌++◌, refl, sym, ap, ◌∙◌, subst, arith, length, length-append, take, drop, get_or, append_assoc, take-append-drop, Result, Ok, Err, OnErr, append-nil, add-one, codes}
 use lib.Seq.{take-suc, take-append-le, take-append-add}
 use Rattle.std.specs.Io.KnownBytes.{Appends}
 use Rattle.streams.specs.Writing.{Begins}
@@ -40,18 +39,14 @@ appends_none a = Appends-nil a
 pub appends_more : (a b c : Option (List ℕ)) (xs ys zs : List ℕ) → Appends a b xs → Appends b c ys → zs ≡ xs ++ ys → Appends a c zs
 appends_more a b c xs ys zs p q e = rw e (Appends-trans a b c xs ys p q)
 
-pub appends_then : (a b c : Option (List ℕ)) (xs ys : List ℕ) → Appends a b xs → Appends b c ys → Appends a c (xs ++ ys)
-appends_then a b c xs ys p q = Appends-trans a b c xs ys p q
-
 -- a beginning of the first text, or the first and a beginning of what follows, is a beginning of both
 pub begins_first : (a b : Option (List ℕ)) (xs ys : List ℕ) → Begins a b xs → Begins a b (xs ++ ys)
 begins_first a b xs ys p =
-    let n : ℕ = min p.n (length xs) in
-    let same : take p.n xs ≡ take n (xs ++ ys) = sym (take_min p.n xs) ∙ sym (take-append-le n xs ys (omega arith)) in
-    record { n = n; written = subst (Appends a b) same p.written }
+    let same : take p.n xs ≡ take p.n (xs ++ ys) = sym (take-append-le p.n xs ys (omega (arith, p.short))) in
+    record { n = p.n; short = omega (arith, p.short, length-append xs ys); written = subst (Appends a b) same p.written }
 
 pub begins_then : (a b c : Option (List ℕ)) (xs ys : List ℕ) → Appends a b xs → Begins b c ys → Begins a c (xs ++ ys)
-begins_then a b c xs ys p q = record { n = length xs + q.n; written = subst (Appends a c) (sym (take-append-add xs ys q.n)) (Appends-trans a b c xs (take q.n ys) p q.written) }
+begins_then a b c xs ys p q = record { n = length xs + q.n; short = omega (arith, q.short, length-append xs ys); written = subst (Appends a c) (sym (take-append-add xs ys q.n)) (Appends-trans a b c xs (take q.n ys) p q.written) }
 
 pub on_err : {A E P : Type 0} (r : Result A E) → P → OnErr r P
 on_err (Ok x) p = tt

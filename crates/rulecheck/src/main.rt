@@ -1,8 +1,8 @@
 // The program: a book on standard input, its answer on standard output, as document 01 prints it.
 #![tactic(auto)]
 
-ghost use Rattle.std.specs.Prelude.{OnOk, OnErr, IfSome};
-ghost use Rattle.std.specs.Io.KnownBytes.{Appends};
+ghost use Rattle.std.specs.Prelude.{◌≤◌, OnOk, OnErr, IfSome, List, length, ℕ};
+ghost use Rattle.std.specs.Io.KnownBytes.{Appends, Consumes};
 ghost use Rattle.streams.specs.Writing.{Begins};
 ghost use Rattle.checker.specs.Checked.{told};
 ghost use Rattle.rulecheck.specs.Printed.{printed, printed_of, printed_for};
@@ -25,10 +25,11 @@ fn main(rt: HostRuntime) -> io::Result<()> {
     run(&mut rt.reader(), &mut io::writer(&rt))
 }
 
-// Reads a book and prints its answer.
+// Reads a book and prints its answer. After an error a beginning of that is written, and not the whole; at most 8,193 bytes are read.
 fn run<R: Read, W: Write>(input: &mut R, out: &mut W) -> io::Result<()>
     ensures written { OnOk result (IfSome (R.remaining input.old) (λ xs. Appends (W.contents out.old) (W.contents out.new) (printed_for xs))) }
     ensures error { OnErr result (IfSome (R.remaining input.old) (λ xs. Begins (W.contents out.old) (W.contents out.new) (printed_for xs))) }
+    ensures taken { (bs : List ℕ) × (length bs ≤ 8193) × Consumes (R.remaining input.old) (R.remaining input.new) bs }
 {
     let mut book = [0u8; MOST];
     let n = read_full(input, &mut book)?;

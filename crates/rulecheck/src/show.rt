@@ -73,7 +73,7 @@ fn living<W: Write>(
     Ok(())
 }
 
-// "state, parent, relation, then its true atoms ascending"
+// The line of a state: its edge and its true atoms, read from the buffers.
 #[tactic(auto, unfolding(crate::specs::Lines::atoms_at))]
 fn state<W: Write>(
     out: &mut W,
@@ -92,6 +92,7 @@ fn state<W: Write>(
     line(out, s, edge, &atoms)
 }
 
+// "state, parent, relation, then its true atoms ascending"
 fn line<W: Write>(out: &mut W, s: usize, edge: Edge, atoms: &[u8; 256]) -> io::Result<()>
     ensures written { OnOk result (Appends (W.contents out.old) (W.contents out.new) (state_line s edge.parent edge.relation atoms.now)) }
     ensures error { OnErr result (Begins (W.contents out.old) (W.contents out.new) (state_line s edge.parent edge.relation atoms.now)) }

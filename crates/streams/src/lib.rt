@@ -26,7 +26,7 @@ pub fn read_full<R: Read>(reader: &mut R, buf: &mut [u8]) -> io::Result<usize>
     Ok(done)
 }
 
-// Writes the whole of `text`. After an error a beginning of it is written.
+// Writes the whole of `text`. After an error a beginning of it is written, and not the whole. It does not try again where a signal interrupts a write.
 pub fn write_full<W: Write>(writer: &mut W, text: &[u8]) -> io::Result<()>
     ensures written { OnOk result (Appends (W.contents writer.old) (W.contents writer.new) text.now) }
     ensures error { OnErr result (Begins (W.contents writer.old) (W.contents writer.new) text.now) }

@@ -1,4 +1,5 @@
-use Rattle.rulecheck.proofs.Written.{on_err, on_err_more, appends_then, begins_first, begins_then}
+use Rattle.std.proofs.KnownBytes.{Appends-trans}
+use Rattle.rulecheck.proofs.Written.{on_err, on_err_more, begins_first, begins_then}
 use Rattle.rulecheck.proofs.show.verdict.Goals as goal
 
 pub returns-in_err-begin-clause-error : goal.returns-in_err-begin-clause-error
@@ -10,9 +11,9 @@ returns-in_err-end-clause-error g c = on_err c.from_residual-in_err-end.result (
 pub returns-in_err-begin-2-clause-error : goal.returns-in_err-begin-2-clause-error
 returns-in_err-begin-2-clause-error g c =
     on_err c.from_residual-in_err-begin-2.result
-    (begins_then _ _ _ _ _ (appends_then _ _ _ _ _ c.in_ok-begin.ensures.written c.in_ok-end.ensures.written) (begins_first _ _ _ _ c.in_err-begin-2.ensures.error))
+    (begins_then _ _ _ _ _ (Appends-trans _ _ _ _ _ c.in_ok-begin.ensures.written c.in_ok-end.ensures.written) (begins_first _ _ _ _ c.in_err-begin-2.ensures.error))
 
 pub returns-clause-error : goal.returns-clause-error
 returns-clause-error g c =
-    on_err_more _ _ _ _ _ c.end-2.result (appends_then _ _ _ _ _ c.in_ok-begin.ensures.written c.in_ok-end.ensures.written)
+    on_err_more _ _ _ _ _ c.end-2.result (Appends-trans _ _ _ _ _ c.in_ok-begin.ensures.written c.in_ok-end.ensures.written)
     (on_err_more _ _ _ _ _ c.end-2.result c.in_ok-begin-2.ensures.written c.end-2.ensures.error)
