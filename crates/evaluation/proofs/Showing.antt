@@ -229,14 +229,6 @@ pub rule-read : (bs : List ℕ) (offset : ℕ) → Sound bs offset → (i : ℕ)
     → b ≡ number16 bs (offset + 8 * i + 4) → r ≡ number16 bs (offset + 8 * i + 6) → Ruled i k a b r (node (table_of bs) i)
 rule-read bs offset sound i h k a b r p q s t = rw (p, q, s, t) (sound.rule i h)
 
--- ---- all nodes
-module _ (bs st : List ℕ) (n : ℕ) where
-  pub evaluating_none : (i : ℕ) (w : List ℕ) → Evaluating bs st n i i w w
-  evaluating_none i w = record { long = refl; kept = λ p h. refl; shows = λ ws vs s. s }
-
-  pub evaluating_more : (i k m : ℕ) (old mid new : List ℕ) → Evaluating bs st n i k old mid → Evaluating bs st n k m mid new → Evaluating bs st n i m old new
-  evaluating_more i k m old mid new x y = record { long = y.long ∙ x.long; kept = λ p h. y.kept p h ∙ x.kept p h; shows = λ ws vs s. y.shows ws vs (x.shows ws vs s) }
-
 -- the root's mark at state 1
 pub root-shown : (F : Finite) (ns : List Node) (k n root : ℕ) (w : List ℕ) → Shown F ns k n w → root < k → 1 ≤ n → on w (node_row root) ≡ evaluate F ns root 1
 root-shown F ns k n root w s h q = ap (on w) (sym (add-zero (node_row root))) ∙ mark-node F ns k n w s root 0 h q

@@ -1,12 +1,11 @@
 -- The answer's fields: they are small, a place being that of a node and totals those of a build within the limits; and six stores write them.
 -- Assumes nothing.
-use Prim.Native.Nat.{ℕ, ◌≤◌}
+use Prim.Native.Nat.{ℕ}
 use native.Mathlib.Omega.{arith}
 use mathlib.Core.Path.{◌≡◌, refl}
 use mathlib.Core.Bool.{Bool, true, false, cond}
-use mathlib.Core.List.{List, [], ◌∷◌}
+use mathlib.Core.List.{List}
 use lib.Dec.{leb}
-use lib.ListN.{length, set, drop}
 use Rattle.book.proofs.Verdicts.{refused-low}
 use Rattle.encoding.specs.Build.{built}
 use Rattle.encoding.specs.Limits.{max_states}
@@ -36,12 +35,3 @@ module _ (bs : List ℕ) (budget : ℕ) (o : Lent) where
       go : (b : Bool) → Small (cond b (checked bs budget o) (leaving (refusal 10 0) o)).answer
       go true = checked-small
       go false = record { place = omega arith; states = omega arith; variables = omega arith; clauses = omega arith }
-
-pub six_stored : (out : List ℕ) (a b c d e f : ℕ) → 6 ≤ length out → set (set (set (set (set (set out 0 a) 1 b) 2 c) 3 d) 4 e) 5 f ≡ a ∷ b ∷ c ∷ d ∷ e ∷ f ∷ drop 6 out
-six_stored (p ∷ q ∷ r ∷ s ∷ t ∷ u ∷ out) a b c d e f h = refl
-six_stored [] a b c d e f h = absurd (omega arith)
-six_stored (p ∷ []) a b c d e f h = absurd (omega arith)
-six_stored (p ∷ q ∷ []) a b c d e f h = absurd (omega arith)
-six_stored (p ∷ q ∷ r ∷ []) a b c d e f h = absurd (omega arith)
-six_stored (p ∷ q ∷ r ∷ s ∷ []) a b c d e f h = absurd (omega arith)
-six_stored (p ∷ q ∷ r ∷ s ∷ t ∷ []) a b c d e f h = absurd (omega arith)

@@ -2,14 +2,14 @@
 -- Assumes nothing.
 use mathlib.Core.Path.{◌≡◌, refl, sym, ap, ◌∙◌}
 use mathlib.Core.Bool.{Bool, true, false}
-use Prim.Native.Nat.{zero, suc, ◌+◌, ◌-◌, ◌^◌, ◌≤◌, ◌<◌}
+use Prim.Native.Nat.{zero, suc, ◌+◌, ◌-◌, ◌^◌, ◌<◌}
 use native.Mathlib.Omega.{arith}
 use borrow.Author.Tests.{le-ltb, ltb-true, ltb-false, eqb-true, eqb-false}
-use lib.Dec.{T, eqb}
+use lib.Dec.{eqb}
 use lib.IntN.{ℤ, pos, negsuc, nat_abs, ◌+ℤ◌, ◌-ℤ◌}
-use lib.Signed.{lt_z, non_neg}
-use mir.Syntax.{w16, w64}
-use mir.Val.{Fits, SFits, to_z, of_z}
+use lib.Signed.{lt_z}
+use mir.Syntax.{w16}
+use mir.Val.{SFits, to_z, of_z}
 use mir.Facts.{to_z-of_z}
 use Rattle.clauses.proofs.Signs.{read}
 use Rattle.ground.proofs.Tests.{true-false}
@@ -25,15 +25,6 @@ pub is_zero : (l : ℤ) → SFits w16 l → of_z w16 l ≡ 0 → l ≡ pos 0
 is_zero l f h = sym (to_z-of_z f) ∙ ap (to_z w16) h
 
 -- ---- above 0
-pub up_cast : (y : ℤ) → SFits w16 y → lt_z (pos 0) y ≡ true → T (non_neg y) × Fits w64 (nat_abs y)
-up_cast (pos n) f e = (tt, record { fits = omega (arith, f.sfits) })
-up_cast (negsuc n) f e = true-false (sym e)
-
-pub up-sub : (y : ℤ) → lt_z (pos 0) y ≡ true → 1 ≤ nat_abs y
-up-sub (pos zero) e = true-false (sym e)
-up-sub (pos (suc n)) e = omega arith
-up-sub (negsuc n) e = true-false (sym e)
-
 pub up-place : (y : ℤ) → lt_z (pos 0) y ≡ true → nat_abs y - 1 ≡ place y
 unfolding place
 up-place (pos zero) e = true-false (sym e)

@@ -15,7 +15,7 @@ use Rattle.clauses.specs.Clause.{Clause, triples}
 use Rattle.search.specs.Search.{value, place, mark, make_true, met, unassigned, quiet, forces, says, zeros, settle}
 use Rattle.search.specs.Models.{ClausesIn, Forcing, done, step}
 use Rattle.propagation.specs.Trail.{first_branch, entry_for, plain, noted, latest_branch, Marked}
-use Rattle.propagation.specs.Propagation.{Held, Waits, Calmed, Moved, Every, Heard, Queue, Followed, settled_by, Settling, Rested}
+use Rattle.propagation.specs.Propagation.{Held, Waits, Calmed, Moved, Every, Queue, Followed, settled_by, Settling, Rested}
 use Rattle.search.proofs.Clauses.{Forces, says-forces, scan-quiet, quiet-scan}
 use Rattle.search.proofs.Marks.{zero-place, place_in, fewer, lowest-true}
 use Rattle.search.proofs.Settled.{forcing_above, any_order_calm, any_order_clash}
@@ -64,10 +64,6 @@ same-plain t t' n k e h =
 -- from earlier on
 pub calmed-from : (c : Clause) (a t : List ℕ) (m n top : ℕ) → m ≤ n → Calmed c a t n top → Calmed c a t m top
 calmed-from c a t m n top h = ⊎_elim (λ q. inl q) (λ w. inr (w.0, omega (arith, w.1, h), w.2, w.3))
-
--- nothing waits where the queue is at its end
-pub calmed_end : (c : Clause) (a t : List ℕ) (n top : ℕ) → top ≤ n → Calmed c a t n top → says a c ≡ quiet
-calmed_end c a t n top h = ⊎_elim (λ q. q) (λ w. absurd (omega (arith, w.1, w.2, h)))
 
 module _ {cl : List ℤ} {m : ℕ} {a t : List ℕ} {top : ℕ} {a' t' : List ℕ} (M : Moved cl m a t top a' t') where
   -- what waited still does
@@ -172,10 +168,7 @@ module _ (cl : List ℤ) (n : ℕ) (a t : List ℕ) (h : ClausesIn (length a) (t
     pub forced-waits : Calmed c (make_true a l) (set t n e') n (n + 1)
     forced-waits = inr (waits c (l, F.holds, number))
 
--- ---- the queue at the start of a node: after a sweep at the root, and after a branch
-pub queue_root : {cl : List ℤ} {a t : List ℕ} {top : ℕ} {a' t' : List ℕ} → Heard cl (Every cl) 0 a t top a' t' true → Queue cl a' t' 0 top
-queue_root H = record { marked = H.moved.marked; calmed = H.calmed refl }
-
+-- ---- the queue at the start of a node that a branch made
 pub queue_branch : (cl : List ℤ) (a t : List ℕ) (n : ℕ) → 0 < n → Rested cl (latest_branch a t n) → Marked a (plain t (n - 1)) → Queue cl a t (n - 1) n
 queue_branch cl a t n h r m =
     let x = noted t (n - 1) in

@@ -1,9 +1,9 @@
 // The lines that the program prints.
-ghost use Rattle.std.specs.Prelude.{◌++◌, OnOk, OnErr, codes, decimal};
+ghost use Rattle.std.specs.Prelude.{◌+◌, ◌++◌, OnOk, OnErr};
 ghost use Rattle.std.specs.Io.KnownBytes.{Appends};
 ghost use Rattle.encoding.specs.Limits.{max_states};
 ghost use Rattle.streams.specs.Writing.{Begins};
-ghost use Rattle.rulecheck.specs.Lines.{spaced, newline, refusal_line, size_line, verdict_line, numbers_marked, states_marked, state_line, line_of, structure_lines};
+ghost use Rattle.rulecheck.specs.Lines.{spaced, begun, newline, refusal_line, size_line, verdict_line, marked, state_line, line_of, structure_lines};
 
 use encoding::Build;
 use std::io;
@@ -53,7 +53,7 @@ pub fn structure<W: Write>(
 }
 
 // The lines of the states that are marked.
-#[tactic(auto, using(crate::proofs::Written::appends_none, crate::proofs::Written::state_none, crate::proofs::Written::state_put, crate::proofs::Written::state_passed))]
+#[tactic(auto, using(crate::proofs::Written::marks_written))]
 fn living<W: Write>(
     out: &mut W,
     b: Build,
@@ -62,8 +62,8 @@ fn living<W: Write>(
     values: &[u8],
     lives: &[u8; Build::STATES],
 ) -> io::Result<()>
-    ensures written { OnOk result (Appends (W.contents out.old) (W.contents out.new) (states_marked lives.now (line_of b.states states.now b.variables words.now values.now) max_states)) }
-    ensures error { OnErr result (Begins (W.contents out.old) (W.contents out.new) (states_marked lives.now (line_of b.states states.now b.variables words.now values.now) max_states)) }
+    ensures written { OnOk result (Appends (W.contents out.old) (W.contents out.new) (marked lives.now (λ i. line_of b.states states.now b.variables words.now values.now (i + 1)) max_states)) }
+    ensures error { OnErr result (Begins (W.contents out.old) (W.contents out.new) (marked lives.now (λ i. line_of b.states states.now b.variables words.now values.now (i + 1)) max_states)) }
 {
     for s in 0..Build::STATES {
         if structure::marked(lives, s) {
@@ -107,10 +107,10 @@ fn line<W: Write>(out: &mut W, s: usize, edge: Edge, atoms: &[u8; 256]) -> io::R
 }
 
 // The marked numbers ascending, each after a space.
-#[tactic(auto, using(crate::proofs::Written::appends_none, crate::proofs::Written::number_none, crate::proofs::Written::number_put, crate::proofs::Written::number_passed))]
+#[tactic(auto, using(crate::proofs::Written::marks_written))]
 fn put_marked<W: Write>(out: &mut W, marks: &[u8; 256]) -> io::Result<()>
-    ensures written { OnOk result (Appends (W.contents out.old) (W.contents out.new) (numbers_marked marks.now 256)) }
-    ensures error { OnErr result (Begins (W.contents out.old) (W.contents out.new) (numbers_marked marks.now 256)) }
+    ensures written { OnOk result (Appends (W.contents out.old) (W.contents out.new) (marked marks.now spaced 256)) }
+    ensures error { OnErr result (Begins (W.contents out.old) (W.contents out.new) (marked marks.now spaced 256)) }
 {
     for a in 0..256 {
         if structure::marked(marks, a) {
@@ -122,8 +122,8 @@ fn put_marked<W: Write>(out: &mut W, marks: &[u8; 256]) -> io::Result<()>
 
 // The beginning of a line: a word, and each number after a space.
 fn begin<W: Write>(out: &mut W, word: &[u8], numbers: &[u64]) -> io::Result<()>
-    ensures written { OnOk result (Appends (W.contents out.old) (W.contents out.new) (word.now ++ spaced numbers.now)) }
-    ensures error { OnErr result (Begins (W.contents out.old) (W.contents out.new) (word.now ++ spaced numbers.now)) }
+    ensures written { OnOk result (Appends (W.contents out.old) (W.contents out.new) (begun word.now numbers.now)) }
+    ensures error { OnErr result (Begins (W.contents out.old) (W.contents out.new) (begun word.now numbers.now)) }
 {
     write_full(out, word)?;
     for n in numbers {
@@ -134,8 +134,8 @@ fn begin<W: Write>(out: &mut W, word: &[u8], numbers: &[u64]) -> io::Result<()>
 
 // A space and a number.
 fn put<W: Write>(out: &mut W, n: u64) -> io::Result<()>
-    ensures written { OnOk result (Appends (W.contents out.old) (W.contents out.new) (codes " " ++ decimal n)) }
-    ensures error { OnErr result (Begins (W.contents out.old) (W.contents out.new) (codes " " ++ decimal n)) }
+    ensures written { OnOk result (Appends (W.contents out.old) (W.contents out.new) (spaced n)) }
+    ensures error { OnErr result (Begins (W.contents out.old) (W.contents out.new) (spaced n)) }
 {
     let mut digits = itoa::Buffer::new();
     write_full(out, b" ")?;

@@ -18,11 +18,8 @@ use Rattle.branching.proofs.Promise as promise
 use Rattle.solve.specs.Solved.{fits, number_of, searched, Solved}
 use Rattle.solve.proofs.Fitting.{fits-ready}
 
--- ---- what fits is searched, and what does not is refused
+-- ---- what does not fit is refused
 module _ (cl : List ℤ) (a t : List ℕ) (budget : ℕ) where
-  pub by_search : {a' t' : List ℕ} {o : Outcome} {r : ℕ} → fits cl (length a) (length t) ≡ true → Answered cl a t budget a' t' o → r ≡ number_of o → Solved cl a t budget a' t' r
-  by_search e A q = record { number = q ∙ rw e (ap number_of A.gives); leaves = rw e A.leaves; clears = rw e A.clears }
-
   pub refusal : fits cl (length a) (length t) ≡ false → Solved cl a t budget a t 10
   refusal e = record { number = rw e; leaves = rw e; clears = rw e }
 

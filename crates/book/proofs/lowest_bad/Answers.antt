@@ -1,13 +1,9 @@
 use native.Mathlib.Omega.{arith}
-use native.Mathlib.Nat.{sub-zero}
 use mathlib.Core.Path.{◌≡◌, sym, ◌∙◌}
 use mathlib.Core.Bool.{true, false}
 use borrow.Author.Rules.{rules}
 use Rattle.book.proofs.Nodes.{lowest-turn, lowest_end}
 use Rattle.book.proofs.lowest_bad.Goals as goal
-
-pub loop-i-init : goal.loop-i-init
-loop-i-init c = (omega arith, rw sub-zero)
 
 pub loop-i-preserved : goal.loop-i-preserved
 loop-i-preserved c =

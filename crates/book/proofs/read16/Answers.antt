@@ -5,18 +5,6 @@ use mathlib.Core.Path.{refl}
 use Rattle.book.specs.Rulebook.{number16}
 use Rattle.book.proofs.read16.Goals as goal
 
-pub overflow_cast-result : goal.overflow_cast-result
-overflow_cast-result c = omega (arith, c.shared_slice_known-1.given c.args.at)
-
-pub overflow_cast-result-2 : goal.overflow_cast-result-2
-overflow_cast-result-2 c = omega (arith, c.shared_slice_known-2-1.given (c.args.at + 1))
-
-pub overflow_mul-result : goal.overflow_mul-result
-overflow_mul-result c = omega (arith, c.shared_slice_known-2-1.given (c.args.at + 1))
-
-pub overflow_add-result-2 : goal.overflow_add-result-2
-overflow_add-result-2 c = let a = c.args.at in omega (arith, c.shared_slice_known-2-1.given a, c.shared_slice_known-2-1.given (a + 1))
-
 pub returns : goal.returns
 unfolding number16
 returns c = let a = c.args.at in (refl, omega (arith, c.shared_slice_known-2-1.given a, c.shared_slice_known-2-1.given (a + 1)))

@@ -21,6 +21,7 @@ use Rattle.branching.proofs.search.Goals as goal
 use Rattle.branching.proofs.search.Goals.{After-clear_u8, After-walk-outcome}
 
 -- after the values are cleared: nothing is assigned
+
 module _ (C : After-clear_u8) where
   abbrev a : List ℕ
   a = C.clear_u8.new.s
@@ -60,9 +61,6 @@ module _ (W : After-walk-outcome) where
   ran =
       subst (λ (X : Run). Ran X W.args.budget a' W.walk-outcome.result) (run_is (triples W.args.clauses.now) v (a (goal.at.After-walk-outcome W).After-clear_u8) (none (goal.at.After-walk-outcome W).After-clear_u8)) W.walk-outcome.ensures
 
-pub link-requires : goal.link-requires
-link-requires c = (c.args.many, c.requires.0, c.requires.1)
-
 pub walk-outcome-requires : goal.walk-outcome-requires
 walk-outcome-requires c = (
   shown (goal.at.walk-outcome-requires c).After-clear_u8,
@@ -71,9 +69,6 @@ walk-outcome-requires c = (
   refl,
   counts (goal.at.walk-outcome-requires c).After-clear_u8,
 )
-
-pub clear_u16-requires : goal.clear_u16-requires
-clear_u16-requires c = omega (arith, c.link.auto.links)
 
 pub returns : goal.returns
 returns c =

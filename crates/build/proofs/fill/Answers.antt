@@ -9,27 +9,9 @@ use Rattle.encoding.specs.Build.{plan}
 use Rattle.build.proofs.Filling.{cleared-shows, cleared-low, cleared-parents, filled-whole, filled-over}
 use Rattle.build.proofs.fill.Goals as goal
 
-pub run-d-requires-clause-sound : goal.run-d-requires-clause-sound
-run-d-requires-clause-sound c =
-    c.requires.sound
-
-pub run-d-requires-clause-root_in_bounds : goal.run-d-requires-clause-root_in_bounds
-run-d-requires-clause-root_in_bounds c =
-    c.requires.root_in_bounds
-
-pub run-d-requires-clause-long : goal.run-d-requires-clause-long
-run-d-requires-clause-long c =
-    let long = c.requires.long in
-    (omega (arith, long.0), omega (arith, long.1), omega (arith, long.2))
-
 pub run-d-requires-clause-low : goal.run-d-requires-clause-low
 run-d-requires-clause-low c =
     (cleared-low c.clear.ensures, cleared-parents c.clear.ensures)
-
-pub clear-requires-then-d-ne0 : goal.clear-requires-then-d-ne0
-clear-requires-then-d-ne0 c =
-    let long = c.requires.long in
-    (omega (arith, long.0), omega (arith, long.1), omega (arith, long.2))
 
 pub returns-then-d-ne0 : goal.returns-then-d-ne0
 returns-then-d-ne0 c =

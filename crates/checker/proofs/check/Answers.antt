@@ -14,10 +14,6 @@ judge-requires-clause-fit c =
     let w = lawful-told _ c.read.result _ c.read.ensures c.in-Accepted.is in
     record { sound = w.sound; nodes = sym w.length_is; root = w.root_in }
 
-pub judge-requires-clause-enough : goal.judge-requires-clause-enough
-judge-requires-clause-enough c =
-    sym c.enough.ensures ∙ not-false c.enough.result c.if-not-enough.false-raw
-
 pub returns-in-Accepted : goal.returns-in-Accepted
 returns-in-Accepted c =
     let e = sym c.enough.ensures ∙ not-false c.enough.result c.if-not-enough.false-raw in

@@ -9,22 +9,9 @@ clear_u8-requires c = (enough-is _ c.requires.enough).values
 pub clear_u16-requires : goal.clear_u16-requires
 clear_u16-requires c = (enough-is _ c.requires.enough).work
 
-pub fill-requires-clause-sound : goal.fill-requires-clause-sound
-fill-requires-clause-sound c =
-    let e = enough-is _ c.requires.enough in
-    let f = c.requires.fit in
-    (f.sound, f.nodes)
-
-pub fill-requires-clause-root_in_bounds : goal.fill-requires-clause-root_in_bounds
-fill-requires-clause-root_in_bounds c =
-    let e = enough-is _ c.requires.enough in
-    let f = c.requires.fit in
-    f.root
-
 pub fill-requires-clause-long : goal.fill-requires-clause-long
 fill-requires-clause-long c =
     let e = enough-is _ c.requires.enough in
-    let f = c.requires.fit in
     (e.states, e.words, e.clauses)
 
 pub decide-requires : goal.decide-requires

@@ -1,10 +1,7 @@
 use Rattle.clauses.specs.Clause.{literal}
-use Rattle.clauses.proofs.Signs.{neg-fits, neg_is, to_pos}
+use Rattle.clauses.proofs.Signs.{neg_is, to_pos}
 use lib.IntN.{pos}
 use Rattle.clauses.proofs.literal.Goals as goal
-
-pub overflow_sub-result : goal.overflow_sub-result
-overflow_sub-result c = let v = c.args.v in rw (to_pos v c.requires) (neg-fits (pos v) c.requires)
 
 pub returns-then-negative : goal.returns-then-negative
 unfolding literal

@@ -1,5 +1,6 @@
+use Rattle.std.proofs.lemmas.Result.{on_err_weaker}
 use Rattle.rulecheck.specs.Printed.{printed}
-use Rattle.rulecheck.proofs.Written.{on_err, on_err_more, begins_first}
+use Rattle.rulecheck.proofs.Written.{on_err, begins_first, begins_then}
 use Rattle.rulecheck.proofs.lines.Goals as goal
 
 pub returns-in_err-verdict-in-Yes-clause-error : goal.returns-in_err-verdict-in-Yes-clause-error
@@ -8,4 +9,4 @@ returns-in_err-verdict-in-Yes-clause-error g c = rw c.in-Yes.is (on_err c.from_r
 
 pub returns-in_ok-verdict-in-Yes-clause-error : goal.returns-in_ok-verdict-in-Yes-clause-error
 unfolding printed
-returns-in_ok-verdict-in-Yes-clause-error g c = rw c.in-Yes.is (on_err_more _ _ _ _ _ c.structure.result c.in_ok-verdict-in-Yes.ensures.written c.structure.ensures.error)
+returns-in_ok-verdict-in-Yes-clause-error g c = rw c.in-Yes.is (on_err_weaker c.structure.result (begins_then _ _ _ _ _ c.in_ok-verdict-in-Yes.ensures.written) c.structure.ensures.error)

@@ -9,39 +9,15 @@ use Rattle.rules.proofs.rule1.Goals as goal
 pub returns-then-c-ne0 : goal.returns-then-c-ne0
 returns-then-c-ne0 c = (over_asking c.requires.room.0 c.if-c-ne0.true (λ φ. by1_less φ c.args.s c.args.v), c.requires.indexed.1)
 
-pub role-class-requires-clause-sound : goal.role-class-requires-clause-sound
-role-class-requires-clause-sound c =
-    c.requires.sound
-
-pub role-class-requires-clause-v_in_bounds : goal.role-class-requires-clause-v_in_bounds
-role-class-requires-clause-v_in_bounds c =
-    omega (arith, c.requires.room.2, c.requires.room.0.variables, c.requires.long.0)
-
 pub conjunctive-requires-clause-room : goal.conjunctive-requires-clause-room
 conjunctive-requires-clause-room c =
     let t = tame_conjunctive c.role-class.ensures c.in-Conjunctive.is in
     (c.requires.room.0, c.requires.room.1, omega (arith, c.requires.room.0.variables, c.requires.room.2), omega (arith, t.0, t.1), omega (arith, t.0, t.1))
 
-pub conjunctive-requires-clause-indexed : goal.conjunctive-requires-clause-indexed
-conjunctive-requires-clause-indexed c =
-    c.requires.indexed.1
-
-pub conjunctive-requires-clause-long : goal.conjunctive-requires-clause-long
-conjunctive-requires-clause-long c =
-    c.requires.long
-
 pub disjunctive-requires-clause-room : goal.disjunctive-requires-clause-room
 disjunctive-requires-clause-room c =
     let t = tame_disjunctive c.role-class.ensures c.in-Disjunctive.is in
     (c.requires.room.0, c.requires.room.1, omega (arith, c.requires.room.0.variables, c.requires.room.2), omega (arith, t.0, t.1), omega (arith, t.0, t.1))
-
-pub disjunctive-requires-clause-indexed : goal.disjunctive-requires-clause-indexed
-disjunctive-requires-clause-indexed c =
-    c.requires.indexed.1
-
-pub disjunctive-requires-clause-long : goal.disjunctive-requires-clause-long
-disjunctive-requires-clause-long c =
-    c.requires.long
 
 pub returns-in-Conjunctive : goal.returns-in-Conjunctive
 returns-in-Conjunctive c =

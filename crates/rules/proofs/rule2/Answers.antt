@@ -9,26 +9,10 @@ use Rattle.rules.proofs.rule2.Goals as goal
 pub returns-then-c-ne0 : goal.returns-then-c-ne0
 returns-then-c-ne0 c = (over-making c.requires.room.0 c.if-c-ne0.true (λ φ. by2_less φ c.args.s c.args.v), c.requires.indexed.1)
 
-pub role-class-requires-clause-sound : goal.role-class-requires-clause-sound
-role-class-requires-clause-sound c =
-    c.requires.sound
-
-pub role-class-requires-clause-v_in_bounds : goal.role-class-requires-clause-v_in_bounds
-role-class-requires-clause-v_in_bounds c =
-    omega (arith, c.requires.room.2, c.requires.room.0.variables, c.requires.long.1)
-
 pub existential-requires-clause-room : goal.existential-requires-clause-room
 existential-requires-clause-room c =
     let t = tame_existential c.role-class.ensures c.in-Existential.is in
     (c.requires.room.0, c.requires.room.1, omega (arith, c.requires.room.0.variables, c.requires.room.2), t.0, t.1)
-
-pub existential-requires-clause-indexed : goal.existential-requires-clause-indexed
-existential-requires-clause-indexed c =
-    c.requires.indexed.1
-
-pub existential-requires-clause-long : goal.existential-requires-clause-long
-existential-requires-clause-long c =
-    c.requires.long
 
 pub returns-in-Existential : goal.returns-in-Existential
 returns-in-Existential c =

@@ -9,14 +9,6 @@ use Rattle.rules.proofs.rule3.Goals as goal
 pub returns-then-c-ne0 : goal.returns-then-c-ne0
 returns-then-c-ne0 c = (over_pushing c.requires.room.0 c.if-c-ne0.true (λ φ. by3_less φ c.args.s c.args.v), c.requires.indexed.1)
 
-pub role-class-requires-clause-sound : goal.role-class-requires-clause-sound
-role-class-requires-clause-sound c =
-    c.requires.sound
-
-pub role-class-requires-clause-v_in_bounds : goal.role-class-requires-clause-v_in_bounds
-role-class-requires-clause-v_in_bounds c =
-    omega (arith, c.requires.room.1, c.requires.room.0.variables, c.requires.long.1)
-
 pub universal-requires-clause-room : goal.universal-requires-clause-room
 universal-requires-clause-room c =
     let t = tame_universal c.role-class.ensures c.in-Universal.is in

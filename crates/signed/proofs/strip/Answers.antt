@@ -2,7 +2,6 @@ use Prim.Native.Nat.{◌<◌}
 use native.Mathlib.Omega.{arith}
 use mathlib.Core.Path.{refl, ◌∙◌}
 use Rattle.book.proofs.Accepted.{sound-below}
-use Rattle.signed.proofs.Keys.{byte_low}
 use Rattle.signed.proofs.Records.{numbers-read, numbers-kept}
 use Rattle.signed.proofs.Stripping.{ask-low, strip_not, strip_atom, strip_solid}
 use Rattle.signed.proofs.strip.Goals as goal
@@ -33,9 +32,6 @@ returns-then-kind-eq1 c =
     let u = numbers-read c.requires.sound l.i l.invariant.0 l.invariant.1 c.first-atom.ensures.0 refl refl in
     let e = strip_atom (sound-below _ _ c.requires.sound) u l.sign c.if-kind-eq1.true ∙ l.invariant.2 in
     (e, ask-low _ _ c.requires.sound c.args.node c.args.minus c.requires.node_in_bounds _ e)
-
-pub overflow_add-result-2 : goal.overflow_add-result-2
-overflow_add-result-2 c = omega (arith, c.requires.sound.few, byte_low c.loop-kind.sign)
 
 pub returns : goal.returns
 returns c =

@@ -1,4 +1,4 @@
-use mathlib.Core.Path.{◌≡◌, refl, sym, ap, ◌∙◌}
+use mathlib.Core.Path.{◌≡◌, sym, ap, ◌∙◌}
 use native.Mathlib.Omega.{arith}
 use lib.IntN.{ℤ, pos, nat_abs}
 use lib.ListN.{get_or}
@@ -10,6 +10,7 @@ use Rattle.solve.proofs.within.Goals as goal
 use Rattle.solve.proofs.within.Goals.{After-number}
 
 -- the number that stands here, and its absolute value
+
 module _ (c : After-number) where
   abbrev here : ℤ
   here = get_or c.args.clauses.now c.loop-i.i (pos 0)
@@ -19,12 +20,6 @@ module _ (c : After-number) where
 
   measured : c.number.result ≡ nat_abs here
   measured = c.number.ensures ∙ ap nat_abs (to_z-of_z stands)
-
-pub loop-i-init : goal.loop-i-init
-loop-i-init c = (omega arith, refl)
-
-pub number-requires : goal.number-requires
-number-requires c = tt
 
 pub returns-then-v-number : goal.returns-then-v-number
 returns-then-v-number c =

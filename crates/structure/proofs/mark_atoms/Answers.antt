@@ -17,9 +17,6 @@ room c = c.both-room.ensures ∙ rw (c.both.ensures, c.values_fit.ensures, c.wor
 fits : (c : Then-room) → (let a = c.args in (a.v ≤ length a.words.now) × (max_atoms ≤ length a.marks.now))
 fits c = let a = c.args in atoms_in a.v a.words.now a.values.now a.marks.now (sym (room (goal.at.Then-room c).After-both-room) ∙ c.if-room.true)
 
-pub clear_u8-requires : goal.clear_u8-requires
-clear_u8-requires c = (fits (goal.at.clear_u8-requires c).Then-room).1
-
 pub write_atoms-requires : goal.write_atoms-requires
 write_atoms-requires c =
     let p = fits (goal.at.write_atoms-requires c).Then-room in

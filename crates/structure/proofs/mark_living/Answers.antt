@@ -17,9 +17,6 @@ room c = c.both-room.ensures ∙ rw (c.both.ensures, c.values_fit.ensures, c.sta
 fits : (c : Then-room) → (let a = c.args in (a.n ≤ max_states) × (3 * a.n ≤ length a.states.now) × (max_states ≤ length a.marks.now))
 fits c = let a = c.args in living_in a.n a.states.now a.v a.values.now a.marks.now (sym (room (goal.at.Then-room c).After-both-room) ∙ c.if-room.true)
 
-pub clear_u8-requires : goal.clear_u8-requires
-clear_u8-requires c = (fits (goal.at.clear_u8-requires c).Then-room).2
-
 pub write_lives-requires : goal.write_lives-requires
 write_lives-requires c =
     let p = fits (goal.at.write_lives-requires c).Then-room in

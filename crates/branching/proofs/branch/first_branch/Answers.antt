@@ -1,16 +1,15 @@
 use mathlib.Core.Path.{◌≡◌, ap, ◌∙◌}
-use Prim.Native.Nat.{ℕ, ◌+◌, ◌<◌}
+use Prim.Native.Nat.{ℕ, ◌<◌}
 use native.Mathlib.Omega.{arith}
-use lib.ListN.{length, get_or, set}
+use lib.ListN.{length, get_or}
 use Rattle.search.specs.Search.{lowest}
 use Rattle.search.proofs.Marks.{lowest-is}
-use Rattle.propagation.specs.Trail.{first_branch, entry_for}
-use Rattle.propagation.specs.declared.trail.Step.TheVariants.{Next}
 use Rattle.propagation.proofs.Unmet.{unmet_most}
 use Rattle.branching.proofs.branch.first_branch.Goals as goal
 use Rattle.branching.proofs.branch.first_branch.Goals.{After-lowest-i}
 
 -- the variable that is branched on
+
 module _ (L : After-lowest-i) where
   abbrev i : ℕ
   i = L.lowest-i.result
@@ -44,15 +43,4 @@ assign-left-requires c = (
   omega arith,
   omega arith,
   c.requires.6,
-)
-
-pub returns : goal.returns
-returns c = (
-  record {
-    marks = c.assign-left.ensures.0 ∙ ap (λ (k : ℕ). set c.args.values.now k 1) (lowest-one (goal.at.returns c).After-lowest-i);
-    notes = ap (λ (k : ℕ). set c.args.trail.now c.args.n (k + first_branch)) (c.entry.ensures ∙ ap (λ (k : ℕ). entry_for k 1) (lowest-one (goal.at.returns c).After-lowest-i));
-    saves = ap (set c.args.saved.now c.args.n) c.requires.6;
-    leads = ap (Next (c.args.n + 1)) c.assign-left.ensures.2;
-  },
-  c.assign-left.ensures.1,
 )

@@ -23,6 +23,7 @@ use Rattle.branching.proofs.branch.next.Goals as goal
 use Rattle.branching.proofs.branch.next.Goals.{After-settle-s, Else-all_met, Then-s}
 
 -- after propagation
+
 module _ (S : After-settle-s) where
   abbrev cl : List ℤ
   cl = S.args.clauses.now
@@ -94,12 +95,6 @@ module _ (e : Else-all_met) where
   room-saved : top (goal.at.Else-all_met e).After-settle-s < length (sv (goal.at.Else-all_met e).After-settle-s)
   room-saved = omega (arith, room, long (goal.at.Else-all_met e).After-settle-s, e.requires.3)
 
-pub above-from-requires : goal.above-from-requires
-above-from-requires c = omega (arith, c.requires.2)
-
-pub settle-s-requires : goal.settle-s-requires
-settle-s-requires c = let p = c.requires in (p.0, p.1, p.2, p.4, p.6)
-
 pub returns-then-all_met : goal.returns-then-all_met
 returns-then-all_met c = (stepped_yes (calmly (goal.at.returns-then-all_met c).Then-s) (sym (number-tells (b (goal.at.returns-then-all_met c).After-settle-s) (triples (cl (goal.at.returns-then-all_met c).After-settle-s))) ∙ eq-eqb (unmet_among (b (goal.at.returns-then-all_met c).After-settle-s) (triples (cl (goal.at.returns-then-all_met c).After-settle-s))) 0 (sym c.settle-s.ensures.2 ∙ c.if-all_met.true)) (sv (goal.at.returns-then-all_met c).After-settle-s), c.settle-s.ensures.1)
 
@@ -113,11 +108,6 @@ first_branch-requires c = (
   from_low (goal.at.first_branch-requires c).After-settle-s,
   c.settle-s.ensures.2,
 )
-
-pub back-requires : goal.back-requires
-back-requires c =
-    let used = c.settle-s.ensures.0.used in
-    ((_, shown (goal.at.back-requires c).After-settle-s), linked (goal.at.back-requires c).After-settle-s, omega (arith, used, long (goal.at.back-requires c).After-settle-s, c.requires.2), omega (arith, used, c.requires.2, c.requires.3), saved (goal.at.back-requires c).After-settle-s)
 
 pub returns-else-all_met : goal.returns-else-all_met
 returns-else-all_met c =

@@ -7,16 +7,13 @@ use native.Mathlib.Omega.{arith}
 use lib.ListN.{length}
 use lib.IntN.{ℤ}
 use Rattle.clauses.specs.Clause.{triples}
-use Rattle.search.specs.Search.{Run, sat, unsat, plus, nodes}
-use Rattle.propagation.specs.Ready.{Ready}
-use Rattle.propagation.specs.Links.{Linked}
+use Rattle.search.specs.Search.{Run, plus, nodes}
 use Rattle.propagation.specs.Trail.{pending, AllSaved}
 use Rattle.propagation.specs.Propagation.{Started}
 use Rattle.branching.specs.Nodes.{node_of, finished, whole, Stepped}
 use Rattle.propagation.specs.declared.trail.Step.{Step}
-use Rattle.propagation.specs.declared.trail.Step.TheVariants.{Yes, No, Next}
 use Rattle.search.proofs.Nodes.{nodes-plus}
-use Rattle.branching.proofs.Whole.{plus-plus, plus_none, whole-some}
+use Rattle.branching.proofs.Whole.{plus_none, whole-some}
 use Rattle.branching.proofs.branch.walk.Goals as goal
 use Rattle.branching.proofs.branch.walk.Goals.{After-next}
 
@@ -86,48 +83,6 @@ loop-count-init c =
       saved = none-saved c.args.clauses.now c.args.values.now c.args.trail.now c.args.saved.now;
       counts = p.4;
       mirrors = p.0.mirrors;
-    }
-
-pub overflow_add-count : goal.overflow_add-count
-overflow_add-count c = omega (arith, c.ranges.budget, c.loop-count-test.true)
-
-pub next-requires : goal.next-requires
-next-requires c =
-    let w = c.loop-count.invariant in (
-      record { ready = subst (λ (v : ℕ). Ready c.args.clauses.now c.args.many v) (sym w.long) c.requires.0.ready; mirrors = w.mirrors },
-      subst (λ (v : ℕ). Linked c.args.clauses.now v (length c.args.clauses.now) c.args.links.now) (sym w.long) c.requires.1,
-      w.room,
-      w.long-s ∙ c.requires.3 ∙ sym w.long_t,
-      w.started,
-      w.saved,
-      w.counts,
-    )
-
-pub returns-in-Yes : goal.returns-in-Yes
-returns-in-Yes c = (omega (arith, below (goal.at.returns-in-Yes c).After-next), then (goal.at.returns-in-Yes c).After-next (sat (a' (goal.at.returns-in-Yes c).After-next) 1) (stepped (goal.at.returns-in-Yes c).After-next Yes c.in-Yes.is))
-
-pub returns-in-No : goal.returns-in-No
-returns-in-No c = (omega (arith, below (goal.at.returns-in-No c).After-next), then (goal.at.returns-in-No c).After-next (unsat 1) (stepped (goal.at.returns-in-No c).After-next No c.in-No.is))
-
-pub loop-count-smaller : goal.loop-count-smaller
-loop-count-smaller c = omega (arith, below (goal.at.loop-count-smaller c).After-next)
-
-pub loop-count-preserved : goal.loop-count-preserved
-loop-count-preserved c =
-    let k = c.in-Next.k in
-    let e = stepped (goal.at.loop-count-preserved c).After-next (Next k c.in-Next.unmet) c.in-Next.is in
-    let W = whole (cl (goal.at.loop-count-preserved c).After-next) (a' (goal.at.loop-count-preserved c).After-next) (t' (goal.at.loop-count-preserved c).After-next) k in
-    record {
-      low = omega (arith, below (goal.at.loop-count-preserved c).After-next);
-      long = long (goal.at.loop-count-preserved c).After-next;
-      long_t = long_t (goal.at.loop-count-preserved c).After-next;
-      long-s = long-s (goal.at.loop-count-preserved c).After-next;
-      room = omega (arith, e.room, c.loop-count.invariant.room, c.next.auto.trail);
-      is = then (goal.at.loop-count-preserved c).After-next (plus 1 W) e.is ∙ plus-plus c.loop-count.count 1 W;
-      started = e.started;
-      saved = e.saved;
-      counts = e.counts;
-      mirrors = c.next.ensures.1;
     }
 
 pub returns : goal.returns

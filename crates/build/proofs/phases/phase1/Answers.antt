@@ -6,9 +6,6 @@ use Rattle.rules.proofs.Moving.{stays-refl, stays_then}
 use Rattle.build.proofs.Looping.{begins1, turns1, due_begins, due-turns, follows, settles}
 use Rattle.build.proofs.phases.phase1.Goals as goal
 
-pub first_of-v-requires : goal.first_of-v-requires
-first_of-v-requires c = (omega (arith, c.requires.room.1, c.requires.room.0.states), c.requires.indexed.listed.long)
-
 pub loop-v-init : goal.loop-v-init
 loop-v-init c =
     let a = c.args in
@@ -26,42 +23,6 @@ loop-v-init c =
           let φ = plan (table_of a.book.now) root in
           (begins1 φ B room f.0 f.1 sh, due_begins φ a.s c.first_of-v.result B f.0 sh),
     )
-
-pub rule1-d-requires-clause-sound : goal.rule1-d-requires-clause-sound
-rule1-d-requires-clause-sound c =
-    c.requires.sound
-
-pub rule1-d-requires-clause-room : goal.rule1-d-requires-clause-room
-rule1-d-requires-clause-room c =
-    let inv = c.loop-v.invariant in
-    let next = inv.0.next in
-    let taken = c.loop-v-test.true in
-    (next.room, omega (arith, c.requires.room.1, next.states), taken)
-
-pub rule1-d-requires-clause-indexed : goal.rule1-d-requires-clause-indexed
-rule1-d-requires-clause-indexed c =
-    let inv = c.loop-v.invariant in
-    let next = inv.0.next in
-    let taken = c.loop-v-test.true in
-    (inv.7 taken, inv.5)
-
-pub rule1-d-requires-clause-long : goal.rule1-d-requires-clause-long
-rule1-d-requires-clause-long c =
-    let inv = c.loop-v.invariant in
-    let next = inv.0.next in
-    let taken = c.loop-v-test.true in
-    (omega (arith, c.requires.long.0, inv.1), omega (arith, c.requires.long.1, inv.2))
-
-pub next_of-v-requires : goal.next_of-v-requires
-next_of-v-requires c =
-    let y = c.rule1-d.ensures in
-    (omega (arith, c.loop-v-test.true, y.0.stays.next.variables), y.0.stays.next.room.variables, y.1.listed.long)
-
-pub loop-v-smaller : goal.loop-v-smaller
-loop-v-smaller c =
-    let y = c.rule1-d in
-    let f = c.next_of-v.ensures _ y.result.variables (omega arith) y.ensures.1.listed in
-    omega (arith, f.0, f.1, y.ensures.0.stays.next.room.variables)
 
 pub loop-v-preserved : goal.loop-v-preserved
 loop-v-preserved c =

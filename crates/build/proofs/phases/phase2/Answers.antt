@@ -10,9 +10,6 @@ use Rattle.build.proofs.phases.phase2.Goals as goal
 pub returns-then-c-ne0 : goal.returns-then-c-ne0
 returns-then-c-ne0 c = (over-making c.requires.room.0 c.if-c-ne0.true (λ φ. phase2-less φ c.args.s), c.requires.indexed)
 
-pub first_of-v-requires : goal.first_of-v-requires
-first_of-v-requires c = (omega (arith, c.requires.room.1, c.requires.room.0.states), c.requires.indexed.listed.long)
-
 pub loop-v-init : goal.loop-v-init
 loop-v-init c =
     let a = c.args in
@@ -28,34 +25,6 @@ loop-v-init c =
       f.2,
       λ root o B sh. begins2 (plan (table_of a.book.now) root) B c.requires.room.0 f.0 f.1 sh,
     )
-
-pub rule2-d-requires-clause-sound : goal.rule2-d-requires-clause-sound
-rule2-d-requires-clause-sound c =
-    c.requires.sound
-
-pub rule2-d-requires-clause-room : goal.rule2-d-requires-clause-room
-rule2-d-requires-clause-room c =
-    let inv = c.loop-v.invariant in
-    let next = inv.1.next in
-    let long = c.requires.long in
-    let taken = c.loop-v-test.true in (next.room, omega (arith, c.requires.room.1, next.states), omega (arith, taken, next.variables))
-
-pub rule2-d-requires-clause-indexed : goal.rule2-d-requires-clause-indexed
-rule2-d-requires-clause-indexed c =
-    let inv = c.loop-v.invariant in
-    let next = inv.1.next in
-    let long = c.requires.long in
-    let taken = c.loop-v-test.true in (inv.8 taken, inv.7)
-
-pub rule2-d-requires-clause-long : goal.rule2-d-requires-clause-long
-rule2-d-requires-clause-long c =
-    let inv = c.loop-v.invariant in
-    let next = inv.1.next in
-    let long = c.requires.long in
-    let taken = c.loop-v-test.true in (omega (arith, long.0, inv.2), omega (arith, long.1, inv.3), omega (arith, long.2, inv.4))
-
-pub next_of-v-requires : goal.next_of-v-requires
-next_of-v-requires c = (c.loop-v-test.true, c.requires.room.0.variables, c.rule2-d.ensures.1.listed.long)
 
 pub loop-v-smaller : goal.loop-v-smaller
 loop-v-smaller c =

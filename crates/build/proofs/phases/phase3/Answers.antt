@@ -13,9 +13,6 @@ returns-then-c-ne0 c = (over_pushing c.requires.room.0 c.if-c-ne0.true (λ φ. p
 pub returns-then-c-before : goal.returns-then-c-before
 returns-then-c-before c = (childless c.requires.room.0 c.if-c-ne0.false c.if-c-before.true c.requires.low.1, c.requires.indexed)
 
-pub first_of-v-requires : goal.first_of-v-requires
-first_of-v-requires c = (omega (arith, c.requires.room.1, c.requires.room.0.states), c.requires.indexed.listed.long)
-
 pub loop-v-init : goal.loop-v-init
 loop-v-init c =
     let a = c.args in
@@ -30,38 +27,6 @@ loop-v-init c =
       f.2,
       λ root o B sh. begins3 (plan (table_of a.book.now) root) B c.requires.room.0 f.0 f.1 sh,
     )
-
-pub rule3-d-requires-clause-sound : goal.rule3-d-requires-clause-sound
-rule3-d-requires-clause-sound c =
-    c.requires.sound
-
-pub rule3-d-requires-clause-room : goal.rule3-d-requires-clause-room
-rule3-d-requires-clause-room c =
-    let inv = c.loop-v.invariant in
-    let next = inv.1.next in
-    let long = c.requires.long in
-    let taken = c.loop-v-test.true in (next.room, omega (arith, taken, next.variables), omega (arith, c.requires.room.2, next.states))
-
-pub rule3-d-requires-clause-indexed : goal.rule3-d-requires-clause-indexed
-rule3-d-requires-clause-indexed c =
-    let inv = c.loop-v.invariant in
-    let next = inv.1.next in
-    let long = c.requires.long in
-    let taken = c.loop-v-test.true in (inv.7 taken, inv.6)
-
-pub rule3-d-requires-clause-long : goal.rule3-d-requires-clause-long
-rule3-d-requires-clause-long c =
-    let inv = c.loop-v.invariant in
-    let next = inv.1.next in
-    let long = c.requires.long in
-    let taken = c.loop-v-test.true in (long.0, omega (arith, long.1, inv.2), omega (arith, long.2, inv.3))
-
-pub rule3-d-requires-clause-low : goal.rule3-d-requires-clause-low
-rule3-d-requires-clause-low c =
-    c.requires.low
-
-pub next_of-v-requires : goal.next_of-v-requires
-next_of-v-requires c = (c.loop-v-test.true, c.requires.room.0.variables, c.rule3-d.ensures.1.listed.long)
 
 pub loop-v-smaller : goal.loop-v-smaller
 loop-v-smaller c =

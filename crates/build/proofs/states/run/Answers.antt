@@ -1,5 +1,5 @@
 use native.Mathlib.Omega.{arith}
-use mathlib.Core.Path.{refl, sym}
+use mathlib.Core.Path.{refl}
 use Rattle.book.specs.Rulebook.{table_of}
 use Rattle.encoding.specs.Build.{plan, start, expand, states#, build, built}
 use Rattle.encoding.proofs.Indexing.{indexed_start}
@@ -7,14 +7,6 @@ use Rattle.encoding.proofs.Settling.{after}
 use Rattle.rules.proofs.Moving.{scan-start, scan_step}
 use Rattle.build.proofs.Looping.{due-more, settles, settles-over}
 use Rattle.build.proofs.states.run.Goals as goal
-
-pub begin-d-requires-clause-sound : goal.begin-d-requires-clause-sound
-begin-d-requires-clause-sound c =
-    (c.requires.sound.0, c.requires.root_in_bounds)
-
-pub begin-d-requires-clause-long : goal.begin-d-requires-clause-long
-begin-d-requires-clause-long c =
-    (c.requires.long.1, c.requires.long.2)
 
 pub begin-d-requires-clause-indexed : goal.begin-d-requires-clause-indexed
 begin-d-requires-clause-indexed c =
@@ -48,46 +40,6 @@ returns-then-d-ne0 c =
           let i = l.invariant.8 o P (c.begin-d.ensures.0.does o a.states.now sh) in
           settles-over (expand φ) states# l.j (start φ.root) (build φ) P.whole i.1 i.0 c.if-d-ne0.true;
     }
-
-pub slice_bounds-expand-end : goal.slice_bounds-expand-end
-slice_bounds-expand-end c = sym c.loop-j.invariant.2.chained.long
-
-pub slice_bounds-expand-end-in-loop-j : goal.slice_bounds-expand-end-in-loop-j
-slice_bounds-expand-end-in-loop-j c = sym c.loop-j.invariant.2.listed.long
-
-pub expand-d-requires-clause-sound : goal.expand-d-requires-clause-sound
-expand-d-requires-clause-sound c =
-    c.requires.sound
-
-pub expand-d-requires-clause-room : goal.expand-d-requires-clause-room
-expand-d-requires-clause-room c =
-    let inv = c.loop-j.invariant in
-    let long = c.requires.long in
-    (inv.1, c.loop-j-test.true)
-
-pub expand-d-requires-clause-indexed : goal.expand-d-requires-clause-indexed
-expand-d-requires-clause-indexed c =
-    let inv = c.loop-j.invariant in
-    let long = c.requires.long in
-    inv.2
-
-pub expand-d-requires-clause-long : goal.expand-d-requires-clause-long
-expand-d-requires-clause-long c =
-    let inv = c.loop-j.invariant in
-    let long = c.requires.long in
-    (omega (arith, long.0, inv.3), omega (arith, long.1, inv.4), omega (arith, long.2, inv.5))
-
-pub expand-d-requires-clause-low : goal.expand-d-requires-clause-low
-expand-d-requires-clause-low c =
-    let inv = c.loop-j.invariant in
-    let long = c.requires.long in
-    (inv.6, inv.7)
-
-pub overflow_add-j : goal.overflow_add-j
-overflow_add-j c = omega (arith, c.loop-j.invariant.0)
-
-pub loop-j-smaller : goal.loop-j-smaller
-loop-j-smaller c = omega (arith, c.loop-j-test.true, c.loop-j.invariant.1.states)
 
 pub loop-j-preserved : goal.loop-j-preserved
 loop-j-preserved c =

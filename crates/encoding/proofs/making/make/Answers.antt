@@ -1,6 +1,4 @@
 -- In three ways: over a limit before, over a limit now, made.
-use native.Mathlib.Omega.{arith}
-use lib.ListN.{length-set}
 use Rattle.encoding.proofs.Steps.{make-over, make_spilt, make-new}
 use Rattle.encoding.proofs.making.make.Goals as goal
 
@@ -13,12 +11,6 @@ pub returns-then-n-eq-STATES : goal.returns-then-n-eq-STATES
 returns-then-n-eq-STATES c =
     let a = c.args in
     make_spilt a.c a.parent a.relation a.maker a.states.now c.requires.0 c.spilt.result c.if-c-ne0.false c.spilt.ensures c.if-n-eq-STATES.true
-
-pub bounds-states-at-2 : goal.bounds-states-at-2
-bounds-states-at-2 c = simp length-set (omega arith)
-
-pub bounds-states-at-3 : goal.bounds-states-at-3
-bounds-states-at-3 c = simp length-set (omega arith)
 
 pub returns : goal.returns
 returns c =

@@ -1,11 +1,7 @@
 use native.Mathlib.Omega.{arith}
-use lib.ListN.{length-set}
 use Rattle.encoding.proofs.Listing.{listed-set}
 use Rattle.encoding.proofs.owning.enter_own.Goals as goal
 use Rattle.encoding.proofs.owning.enter_own.Goals.{then-last-eq0, else-last-eq0}
-
-pub bounds-own-s-2 : goal.bounds-own-s-2
-bounds-own-s-2 c = simp length-set (omega arith)
 
 pub returns : goal.returns
 returns c =

@@ -1,18 +1,8 @@
 use Prim.Native.Nat.{suc, ◌/◌, ◌-◌}
 use native.Mathlib.Omega.{arith}
 use lib.ListN.{get_or}
-use Rattle.encoding.proofs.Listing.{none_before, none_until}
+use Rattle.encoding.proofs.Listing.{none_until}
 use Rattle.encoding.proofs.owning.next_of.Goals as goal
-
-pub overflow_cast-k : goal.overflow_cast-k
-overflow_cast-k c = omega (arith, c.shared_slice_known-1.given c.args.v)
-
-pub returns-then-k-eq0 : goal.returns-then-k-eq0
-returns-then-k-eq0 c =
-    let a = c.args in
-    λ ws m le x.
-    let y = x.nexts a.v (omega (arith, c.requires.0)) in
-    (omega (arith, c.requires.0), omega arith, none_before ws (get_or ws a.v 0 / 2048) (suc a.v) a.n m (get_or a.own.now a.v 0) le y c.if-k-eq0.true, λ h. absurd (omega arith))
 
 pub returns-then-k-n : goal.returns-then-k-n
 returns-then-k-n c =

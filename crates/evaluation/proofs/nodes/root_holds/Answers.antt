@@ -1,5 +1,4 @@
 -- The root's row at state 1; and clearing at the end leaves what clearing at entry would have left.
-use native.Mathlib.Omega.{arith}
 use mathlib.Core.Path.{ap, ◌∙◌}
 use lib.ListN.{take}
 use Rattle.book.specs.Rulebook.{table_of}
@@ -8,11 +7,6 @@ use Rattle.structure.specs.Marks.{on}
 use Rattle.evaluation.proofs.Showing.{root-shown}
 use Rattle.evaluation.proofs.Preparing.{cleared-kept}
 use Rattle.evaluation.proofs.nodes.root_holds.Goals as goal
-
-pub write_nodes-requires : goal.write_nodes-requires
-write_nodes-requires c =
-    let p = c.requires in
-    (record { sound = p.room.sound; few = p.room.few; records = p.room.records; rows = omega (arith, p.room.rows, c.prepare.ensures.long) }, p.count)
 
 pub returns : goal.returns
 returns c =

@@ -11,6 +11,7 @@ use Rattle.evaluation.proofs.nodes.write_node.Goals as goal
 use Rattle.evaluation.proofs.nodes.write_node.Goals.{After-second_row-other}
 
 -- the numbers read, the rule that they keep, and where the rows lie that the node is made from
+
 module _ (c : After-second_row-other) where
   abbrev k : ℕ
   k = c.kind-k.result

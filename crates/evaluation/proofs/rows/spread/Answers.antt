@@ -1,5 +1,3 @@
-use native.Mathlib.Omega.{arith}
-use mathlib.Core.Path.{◌≡◌}
 use borrow.Author.Rules.{rules}
 use Rattle.signed.specs.Signed.{bit}
 use Rattle.structure.proofs.Scatter.{scatter_none}
@@ -11,12 +9,6 @@ loop-j-init c =
     let a = c.args in
     (search rules, scatter_none (bit a.diamond) _ a.work.now)
 
-pub counts-mark-requires : goal.counts-mark-requires
-counts-mark-requires c = omega (arith, c.loop-j.invariant.1.long)
-
-pub put-requires : goal.put-requires
-put-requires c = omega (arith, c.loop-j.invariant.1.long)
-
 pub loop-j-preserved : goal.loop-j-preserved
 loop-j-preserved c =
     let l = c.loop-j in
@@ -27,9 +19,3 @@ loop-j-preserved c =
           (spread_turn a.states.now a.work.now a.relation a.child a.diamond a.base a.n p.1 p.2 p.3 l.j c.loop-j-test.true l.work
           c.counts-mark.result c.number.result c.counts-mark.ensures c.number.ensures l.invariant.1),
     )
-
-pub returns : goal.returns
-returns c =
-    let l = c.loop-j in
-    let e : l.j ≡ c.args.n = omega (arith, l.invariant.0) in
-    rw e at l.invariant.1

@@ -1,7 +1,7 @@
 -- Each return by the tests that led there.
 use mathlib.Core.Path.{◌≡◌, sym, ap, ◌∙◌}
-use Prim.Native.Nat.{ℕ, ◌+◌, ◌≤◌}
-use mathlib.Core.Bool.{Bool, true, false, cond}
+use Prim.Native.Nat.{ℕ, ◌+◌}
+use mathlib.Core.Bool.{cond}
 use native.Mathlib.Omega.{arith}
 use borrow.Author.Tests.{eq-eqb, ne_eqb, lt-ltb, le-ltb}
 use lib.Dec.{eqb, ltb}
@@ -12,9 +12,6 @@ use Rattle.propagation.proofs.clause.judge.Goals as goal
 use Rattle.propagation.proofs.clause.judge.Goals.{After-counted-3}
 
 -- no more is counted than is there
-counted-le : (w : ℕ) (same : Bool) → counted w same ≤ w
-counted-le w true = omega arith
-counted-le w false = omega arith
 
 -- what is said, by a sum
 by : ℕ → ℕ → ℕ → Told
@@ -34,12 +31,6 @@ module _ (c : After-counted-3) where
   judges : (r : Told) → by n c.args.u c.args.v ≡ r → r ≡ judged c.args.u c.args.v c.args.w c.args.xy c.args.xz c.args.yz
   unfolding judged by
   judges r e = sym e ∙ ap (λ (k : ℕ). by k c.args.u c.args.v) sum_is
-
-pub overflow_add-sum : goal.overflow_add-sum
-overflow_add-sum c = omega (arith, c.requires, c.counted.ensures, counted-le c.args.v c.args.xy)
-
-pub overflow_add-sum-2 : goal.overflow_add-sum-2
-overflow_add-sum-2 c = omega (arith, c.requires, c.counted.ensures, counted-le c.args.v c.args.xy, third c, counted-le (counted c.args.w c.args.xz) c.args.yz, counted-le c.args.w c.args.xz)
 
 pub returns-then-sum-gt1 : goal.returns-then-sum-gt1
 unfolding by

@@ -1,9 +1,8 @@
-use mathlib.Core.Path.{◌≡◌, sym, ap, ◌∙◌}
+use mathlib.Core.Path.{◌≡◌, ap, ◌∙◌}
 use native.Mathlib.Omega.{arith}
-use lib.IntN.{nat_abs}
 use mir.Facts.{to_z-of_z}
 use Rattle.search.specs.Search.{place}
-use Rattle.propagation.proofs.Literals.{place-small, place-number, not-zero, is_zero}
+use Rattle.propagation.proofs.Literals.{place-small, place-number, not-zero}
 use Rattle.propagation.proofs.clause.number.Goals as goal
 use Rattle.propagation.proofs.clause.number.Goals.{After-place}
 
@@ -12,9 +11,6 @@ placed c = c.place.ensures ∙ ap place (to_z-of_z c.ranges.l)
 
 pub overflow_add-result : goal.overflow_add-result
 overflow_add-result c = omega (arith, placed c, place-small c.args.l c.ranges.l)
-
-pub returns-then-l-eq0 : goal.returns-then-l-eq0
-returns-then-l-eq0 c = sym (ap nat_abs (is_zero c.args.l c.ranges.l c.if-l-eq0.true))
 
 pub returns-else-l-eq0 : goal.returns-else-l-eq0
 returns-else-l-eq0 c = omega (arith, placed c, place-number c.args.l (λ e. not-zero c.args.l c.ranges.l c.if-l-eq0.false (to_z-of_z c.ranges.l ∙ e)))

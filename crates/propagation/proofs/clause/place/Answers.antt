@@ -1,19 +1,17 @@
 -- Above 0 the place is one less, below 0 it is -1 - l.
-use mathlib.Core.Path.{◌≡◌, sym, ap, subst, ◌∙◌}
-use native.Mathlib.Omega.{arith}
-use lib.Dec.{T}
+use mathlib.Core.Path.{◌≡◌, sym, ap, ◌∙◌}
 use lib.IntN.{ℤ, pos, negsuc, nat_abs, ◌-ℤ◌}
-use lib.Signed.{non_neg}
-use mir.Syntax.{w16, w64}
-use mir.Val.{SFits, Fits}
+use mir.Syntax.{w16}
+use mir.Val.{SFits}
 use mir.Facts.{to_z-of_z, sfits_to_z, Fits-of_z}
 use Rattle.clauses.proofs.Signs.{read}
 use Rattle.search.specs.Search.{place}
-use Rattle.propagation.proofs.Literals.{up_cast, up-sub, up-place, down, place-small, not-zero, is_zero}
+use Rattle.propagation.proofs.Literals.{up-place, down, place-small, not-zero, is_zero}
 use Rattle.propagation.proofs.clause.place.Goals as goal
 use Rattle.propagation.proofs.clause.place.Goals.{Else-l-gt0}
 
 -- in the third arm
+
 module _ (c : Else-l-gt0) where
   abbrev l : ℤ
   l = c.args.l
@@ -26,20 +24,6 @@ module _ (c : Else-l-gt0) where
 
   third-read : read (negsuc 0 -ℤ read l) ≡ pos (place (read l))
   third-read = ap read third ∙ to_z-of_z fits
-
-pub overflow_cast-result : goal.overflow_cast-result
-overflow_cast-result c = up_cast (read c.args.l) (sfits_to_z (Fits-of_z c.ranges.l)) c.if-l-gt0.true
-
-pub overflow_sub-result : goal.overflow_sub-result
-overflow_sub-result c = up-sub (read c.args.l) c.if-l-gt0.true
-
-pub overflow_sub-result-else-l-gt0 : goal.overflow_sub-result-else-l-gt0
-overflow_sub-result-else-l-gt0 c = subst (λ (z : ℤ). SFits w16 z) (sym (third c)) (fits c)
-
-pub overflow_cast-result-else-l-gt0 : goal.overflow_cast-result-else-l-gt0
-overflow_cast-result-else-l-gt0 c =
-    subst (λ (z : ℤ). T (non_neg z) × Fits w64 (nat_abs z)) (sym (third-read c))
-    (tt, record { fits = omega (arith, place-small (read c.args.l) (sfits_to_z (Fits-of_z c.ranges.l))) })
 
 pub returns-then-l-eq0 : goal.returns-then-l-eq0
 unfolding place

@@ -18,6 +18,7 @@ use Rattle.propagation.proofs.clause.says.Goals as goal
 use Rattle.propagation.proofs.clause.says.Goals.{After-judge}
 
 -- what was judged, under marks that the table shows
+
 module _ (c : After-judge) where
   abbrev d : Clause
   d = c.args.c

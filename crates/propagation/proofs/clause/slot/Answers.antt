@@ -1,11 +1,9 @@
 -- 4,096 more than the literal is its slot.
-use mathlib.Core.Path.{◌≡◌, sym, ap, subst, ◌∙◌}
+use mathlib.Core.Path.{◌≡◌, ap, ◌∙◌}
 use native.Mathlib.Omega.{arith}
-use lib.Dec.{T}
 use lib.IntN.{ℤ, pos, nat_abs, ◌+ℤ◌}
-use lib.Signed.{non_neg}
-use mir.Syntax.{w16, w64}
-use mir.Val.{SFits, Fits}
+use mir.Syntax.{w16}
+use mir.Val.{SFits}
 use mir.Facts.{to_z-of_z}
 use Rattle.clauses.proofs.Signs.{read}
 use Rattle.propagation.specs.Judging.{slot_of}
@@ -26,12 +24,6 @@ module _ (s : Start) where
 
   sum-read : read (read l +ℤ pos 4096) ≡ pos (slot_of l)
   sum-read = ap read plain ∙ to_z-of_z fits
-
-pub overflow_add-result : goal.overflow_add-result
-overflow_add-result c = subst (λ (z : ℤ). SFits w16 z) (sym (plain c)) (fits c)
-
-pub overflow_cast-result : goal.overflow_cast-result
-overflow_cast-result c = subst (λ (z : ℤ). T (non_neg z) × Fits w64 (nat_abs z)) (sym (sum-read c)) (tt, record { fits = omega (arith, slot_small (l c) c.requires) })
 
 pub returns : goal.returns
 returns c = ap nat_abs (sum-read c)

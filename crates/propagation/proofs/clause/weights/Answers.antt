@@ -40,15 +40,6 @@ module _ (s : Start) where
   seen : (a : List ℕ) → Shown d 1 a w → (k i : ℕ) → i ≡ slot_of (read (at d k)) → get_or w i 0 ≡ weight (value a (at d k))
   seen a S k i e = ap (λ (j : ℕ). get_or w j 0) (e ∙ ap slot_of (plain k)) ∙ S.mirrors.is (at d k) (S.ready.range k)
 
-pub slot-i-requires : goal.slot-i-requires
-slot-i-requires c = has-slot (goal.at.slot-i-requires c).Start 0
-
-pub slot-j-requires : goal.slot-j-requires
-slot-j-requires c = has-slot (goal.at.slot-j-requires c).Start 1
-
-pub slot-k-requires : goal.slot-k-requires
-slot-k-requires c = has-slot (goal.at.slot-k-requires c).Start 2
-
 pub bounds-truth-i : goal.bounds-truth-i
 bounds-truth-i c = in_table (goal.at.bounds-truth-i c).Start 0 _ c.slot-i.ensures
 
@@ -57,8 +48,3 @@ bounds-truth-j c = in_table (goal.at.bounds-truth-j c).Start 1 _ c.slot-j.ensure
 
 pub bounds-truth-k : goal.bounds-truth-k
 bounds-truth-k c = in_table (goal.at.bounds-truth-k c).Start 2 _ c.slot-k.ensures
-
-pub returns : goal.returns
-returns c =
-    λ a S.
-    rw (seen (goal.at.returns c).Start a S 0 _ c.slot-i.ensures, seen (goal.at.returns c).Start a S 1 _ c.slot-j.ensures, seen (goal.at.returns c).Start a S 2 _ c.slot-k.ensures)

@@ -114,9 +114,6 @@ goes_on c p e =
           ];
     }
 
-pub head-requires : goal.head-requires
-head-requires c = omega (arith, c.requires.2, (S (goal.at.head-requires c).Start).ready.small)
-
 pub offset_bounds-links-head : goal.offset_bounds-links-head
 offset_bounds-links-head c = omega (arith, in-links c)
 
@@ -126,20 +123,11 @@ bounds-links-head c = in-links (goal.at.bounds-links-head c).After-head
 pub loop-p-init : goal.loop-p-init
 loop-p-init c = starts (goal.at.loop-p-init c).Start _ (ap (λ (y : ℕ). get_or (L (goal.at.loop-p-init c).Start) y 0) c.head.ensures)
 
-pub overflow_sub-p : goal.overflow_sub-p
-overflow_sub-p c = omega (arith, c.loop-p-test.true)
-
 pub clause_at-requires : goal.clause_at-requires
 clause_at-requires c = (on c).within
 
-pub met-requires : goal.met-requires
-met-requires c = (a (goal.at.met-requires c).Start, shown c)
-
 pub overflow_add-many : goal.overflow_add-many
 overflow_add-many c = omega (arith, few (goal.at.overflow_add-many c).After-met)
-
-pub overflow_mul-p : goal.overflow_mul-p
-overflow_mul-p c = omega (arith, (on (goal.at.overflow_mul-p c).In-loop-p).inside)
 
 pub overflow_add-p : goal.overflow_add-p
 overflow_add-p c = omega (arith, (on (goal.at.overflow_add-p c).In-loop-p).inside)

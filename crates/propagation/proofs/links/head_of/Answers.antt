@@ -12,6 +12,7 @@ use Rattle.propagation.proofs.links.head_of.Goals as goal
 use Rattle.propagation.proofs.links.head_of.Goals.{After-mark}
 
 -- of a literal that is not an unused place
+
 module _ (c : After-mark) where
   abbrev l : ℤ
   l = c.args.l

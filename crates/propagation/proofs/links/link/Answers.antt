@@ -15,6 +15,7 @@ use Rattle.propagation.proofs.links.link.Invariants.{Way}
 use Rattle.propagation.proofs.links.link.Goals.{After-clear_u16, After-head_of-x, After-joined, In-loop-i}
 
 -- after the places of the literals were cleared
+
 module _ (C : After-clear_u16) where
   abbrev v : ℕ
   v = C.args.variables
@@ -79,23 +80,8 @@ module _ (J : After-joined) where
             (linked_next (cl (goal.at.After-joined J).In-loop-i) (v (goal.at.After-joined J).After-clear_u16) (i (goal.at.After-joined J).In-loop-i) (L (goal.at.After-joined J).In-loop-i) J.loop-i.invariant.linked (in-links (goal.at.After-joined J).In-loop-i) (x (goal.at.After-joined J).After-head_of-x) (head-is (goal.at.After-joined J).After-head_of-x) (within (goal.at.After-joined J).After-head_of-x)));
       }
 
-pub overflow_mul-variables : goal.overflow_mul-variables
-overflow_mul-variables c = omega (arith, c.requires.1.small)
-
-pub overflow_add-variables : goal.overflow_add-variables
-overflow_add-variables c = omega (arith, c.requires.1.small)
-
-pub clear_u16-requires : goal.clear_u16-requires
-clear_u16-requires c = omega (arith, c.requires.2)
-
 pub loop-i-init : goal.loop-i-init
 loop-i-init c = record { low = omega arith; long = refl; linked = linked_none c.args.clauses.now (v (goal.at.loop-i-init c).After-clear_u16) c.clear_u16.new.s (omega (arith, long (goal.at.loop-i-init c).After-clear_u16)) (zero-at (goal.at.loop-i-init c).After-clear_u16) }
-
-pub offset_bounds-clauses-i : goal.offset_bounds-clauses-i
-offset_bounds-clauses-i c = omega (arith, in_clauses c)
-
-pub bounds-clauses-i : goal.bounds-clauses-i
-bounds-clauses-i c = in_clauses c
 
 pub offset_bounds-links-x : goal.offset_bounds-links-x
 offset_bounds-links-x c = omega (arith, within c, in_memory (goal.at.offset_bounds-links-x c).In-loop-i, memory c)
@@ -103,40 +89,11 @@ offset_bounds-links-x c = omega (arith, within c, in_memory (goal.at.offset_boun
 pub bounds-links-x : goal.bounds-links-x
 bounds-links-x c = omega (arith, within (goal.at.bounds-links-x c).After-head_of-x, in-links (goal.at.bounds-links-x c).In-loop-i)
 
-pub overflow_mul-links : goal.overflow_mul-links
-overflow_mul-links c = omega (arith, in_memory (goal.at.overflow_mul-links c).In-loop-i, memory (goal.at.overflow_mul-links c).After-head_of-x)
-
-pub overflow_add-links : goal.overflow_add-links
-overflow_add-links c = omega (arith, in_memory (goal.at.overflow_add-links c).In-loop-i, memory (goal.at.overflow_add-links c).After-head_of-x)
-
-pub overflow_add-links-in-loop-i : goal.overflow_add-links-in-loop-i
-overflow_add-links-in-loop-i c = omega (arith, in_memory (goal.at.overflow_add-links-in-loop-i c).In-loop-i, memory (goal.at.overflow_add-links-in-loop-i c).After-head_of-x)
-
-pub offset_bounds-links-variables : goal.offset_bounds-links-variables
-offset_bounds-links-variables c = omega (arith, in_memory (goal.at.offset_bounds-links-variables c).In-loop-i, memory (goal.at.offset_bounds-links-variables c).After-head_of-x)
-
-pub bounds-links-variables : goal.bounds-links-variables
-bounds-links-variables c = omega (arith, in-links (goal.at.bounds-links-variables c).In-loop-i)
-
-pub overflow_add-i : goal.overflow_add-i
-overflow_add-i c = omega (arith, in_memory (goal.at.overflow_add-i c).In-loop-i, memory (goal.at.overflow_add-i c).After-head_of-x)
-
-pub overflow_cast-i : goal.overflow_cast-i
-overflow_cast-i c = omega (arith, in_clauses (goal.at.overflow_cast-i c).In-loop-i, c.requires.1.long, c.requires.1.few)
-
 pub offset_bounds-links-x-in-loop-i : goal.offset_bounds-links-x-in-loop-i
 offset_bounds-links-x-in-loop-i c = omega (arith, within (goal.at.offset_bounds-links-x-in-loop-i c).After-head_of-x, in_memory (goal.at.offset_bounds-links-x-in-loop-i c).In-loop-i, memory (goal.at.offset_bounds-links-x-in-loop-i c).After-head_of-x)
 
 pub bounds-links-x-in-loop-i : goal.bounds-links-x-in-loop-i
 bounds-links-x-in-loop-i c = simp length-set (omega (arith, within (goal.at.bounds-links-x-in-loop-i c).After-head_of-x, in-links (goal.at.bounds-links-x-in-loop-i c).In-loop-i))
 
-pub loop-i-smaller : goal.loop-i-smaller
-loop-i-smaller c = omega (arith, in_clauses (goal.at.loop-i-smaller c).In-loop-i)
-
 pub loop-i-preserved : goal.loop-i-preserved
 loop-i-preserved c = goes_on c _ refl
-
-pub returns : goal.returns
-returns c =
-    let end : c.loop-i.i ≡ length c.args.clauses.now = omega (arith, c.loop-i.invariant.low, c.loop-i-test.false) in
-    subst (λ (k : ℕ). Linked c.args.clauses.now (v (goal.at.returns c).After-clear_u16) k c.loop-i.links) end c.loop-i.invariant.linked

@@ -14,12 +14,13 @@ use Rattle.propagation.specs.Ready.{Ready}
 use Rattle.propagation.specs.Links.{Linked}
 use Rattle.propagation.specs.Trail.{noted}
 use Rattle.propagation.specs.Propagation.{Held, Waits, Calmed, Moved, Every, Holding, Heard, Queue}
-use Rattle.propagation.proofs.Moves.{calmed-from, calmed_end, waits-on, marked-on, moved_none, moved_then}
+use Rattle.propagation.proofs.Moves.{calmed-from, waits-on, marked-on, moved_none, moved_then}
 use Rattle.propagation.proofs.propagate.follow.Goals as goal
 use Rattle.propagation.proofs.propagate.follow.Invariants.{Way}
 use Rattle.propagation.proofs.propagate.follow.Goals.{After-visit-s, At-loop-head, In-loop-head}
 
 -- at the loop's head
+
 module _ (h : At-loop-head) where
   abbrev cl : List ℤ
   cl = h.args.clauses.now
@@ -38,10 +39,6 @@ module _ (h : At-loop-head) where
 
   room : h.loop-head.top + zeros h.loop-head.values ≤ length h.loop-head.trail
   room = omega (arith, I.moved.used, I.moved.long_t, h.requires.2)
-
-module _ (c : In-loop-head) where
-  in-trail : c.loop-head.head < length c.loop-head.trail
-  in-trail = omega (arith, room (goal.at.In-loop-head c).At-loop-head, c.loop-head-test.true)
 
 -- after the entry at the head was visited
 module _ (c : After-visit-s) where
@@ -110,40 +107,8 @@ loop-head-init c =
       counts = c.requires.5;
     }
 
-pub offset_bounds-trail-head : goal.offset_bounds-trail-head
-offset_bounds-trail-head c = omega (arith, in-trail c, (I (goal.at.offset_bounds-trail-head c).At-loop-head).moved.long_t)
-
-pub bounds-trail-head : goal.bounds-trail-head
-bounds-trail-head c = in-trail (goal.at.bounds-trail-head c).In-loop-head
-
-pub visit-s-requires : goal.visit-s-requires
-visit-s-requires c = (
-  (_, record { ready = ready (goal.at.visit-s-requires c).At-loop-head; mirrors = (I (goal.at.visit-s-requires c).At-loop-head).mirrors }),
-  linked (goal.at.visit-s-requires c).At-loop-head,
-  (I (goal.at.visit-s-requires c).At-loop-head).queue.marked c.loop-head.head (omega arith) c.loop-head-test.true,
-  room (goal.at.visit-s-requires c).At-loop-head,
-  (I (goal.at.visit-s-requires c).At-loop-head).counts,
-)
-
-pub overflow_add-head : goal.overflow_add-head
-overflow_add-head c = omega (arith, below (goal.at.overflow_add-head c).After-visit-s, room (goal.at.overflow_add-head c).At-loop-head, (I (goal.at.overflow_add-head c).At-loop-head).moved.long_t)
-
-pub loop-head-smaller : goal.loop-head-smaller
-loop-head-smaller c = omega (arith, below (goal.at.loop-head-smaller c).After-visit-s, (M (goal.at.loop-head-smaller c).After-visit-s).used)
-
 pub loop-head-preserved : goal.loop-head-preserved
 loop-head-preserved c = record { low = omega (arith, below (goal.at.loop-head-preserved c).After-visit-s, (M (goal.at.loop-head-preserved c).After-visit-s).above); moved = moved (goal.at.loop-head-preserved c).After-visit-s; queue = queue (goal.at.loop-head-preserved c).After-visit-s c.if-s.true; mirrors = c.visit-s.ensures.1; counts = c.visit-s.ensures.2 }
 
 pub returns-else-s : goal.returns-else-s
 returns-else-s c = (record { moved = moved (goal.at.returns-else-s c).After-visit-s; silent = λ q. true-false (sym q ∙ c.if-s.false); failing = λ q. (H (goal.at.returns-else-s c).After-visit-s false c.if-s.false).failing refl }, c.visit-s.ensures.1, c.visit-s.ensures.2)
-
-pub returns : goal.returns
-returns c = (
-  record {
-    moved = (I (goal.at.returns c).At-loop-head).moved;
-    silent = λ q d m. calmed_end d c.loop-head.values c.loop-head.trail c.loop-head.head c.loop-head.top c.loop-head-test.false ((I (goal.at.returns c).At-loop-head).queue.calmed d m);
-    failing = λ q. true-false q;
-  },
-  (I (goal.at.returns c).At-loop-head).mirrors,
-  (I (goal.at.returns c).At-loop-head).counts,
-)

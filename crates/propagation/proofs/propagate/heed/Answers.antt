@@ -24,6 +24,7 @@ use Rattle.propagation.proofs.propagate.heed.Goals as goal
 use Rattle.propagation.proofs.propagate.heed.Goals.{After-literal_at-l, After-says, In-Forces}
 
 -- what the clause says
+
 module _ (c : After-says) where
   abbrev cl : List ℤ
   cl = c.args.clauses.now
@@ -92,12 +93,6 @@ module _ (R : After-literal_at-l) where
       ap read (R.literal_at-l.ensures ∙ ap (λ (x : Clause). get_or x (k (goal.at.After-literal_at-l R).In-Forces) (pos 0)) R.clause_at-c.ensures)
       ∙ again (l (goal.at.After-literal_at-l R).In-Forces) (omega (arith, low (goal.at.After-literal_at-l R).In-Forces, (shown (goal.at.After-literal_at-l R).After-says).ready.small))
 
-pub clause_at-c-requires : goal.clause_at-c-requires
-clause_at-c-requires c = c.requires.2
-
-pub says-requires : goal.says-requires
-says-requires c = (_, subst (λ (d : Clause). Shown d 1 c.args.values.now c.args.truth.now) (sym c.clause_at-c.ensures) (shown-at _ c.requires.0.1))
-
 pub returns-in-Quiet : goal.returns-in-Quiet
 unfolding told
 returns-in-Quiet c =
@@ -122,9 +117,6 @@ returns-in-Fails c = (
   (shown (goal.at.returns-in-Fails c).After-says).mirrors,
   c.requires.4,
 )
-
-pub literal_at-l-requires : goal.literal_at-l-requires
-literal_at-l-requires c = (in-clause c, subst (λ (x : Clause). nat_abs (get_or x (k c) (pos 0)) < 4096) (sym c.clause_at-c.ensures) (omega (arith, low c, (shown (goal.at.literal_at-l-requires c).After-says).ready.small)))
 
 pub make_true-left-requires : goal.make_true-left-requires
 make_true-left-requires c = (

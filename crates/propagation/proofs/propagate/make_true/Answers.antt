@@ -1,7 +1,7 @@
 use mathlib.Core.Path.{◌≡◌, ap, ◌∙◌}
 use Prim.Native.Nat.{ℕ, ◌<◌}
 use native.Mathlib.Omega.{arith}
-use lib.ListN.{length, get_or, set}
+use lib.ListN.{length, get_or}
 use mir.Facts.{to_z-of_z}
 use Rattle.search.specs.Search.{place, mark}
 use Rattle.search.proofs.Marks.{zero-place, place_in}
@@ -10,6 +10,7 @@ use Rattle.propagation.proofs.propagate.make_true.Goals as goal
 use Rattle.propagation.proofs.propagate.make_true.Goals.{After-mark-m}
 
 -- the variable's place and its mark
+
 module _ (c : After-mark-m) where
   abbrev i : ℕ
   i = c.place-i.result
@@ -47,12 +48,4 @@ assign-requires c = (
   some (goal.at.assign-requires c).After-mark-m,
   low (goal.at.assign-requires c).After-mark-m,
   c.requires.5,
-)
-
-pub returns : goal.returns
-returns c = (
-  simp (placed (goal.at.returns c).After-mark-m, marked (goal.at.returns c).After-mark-m) at c.assign.ensures.0,
-  ap (set c.args.trail.now c.args.n) (c.entry.ensures ∙ simp (placed (goal.at.returns c).After-mark-m, marked (goal.at.returns c).After-mark-m)),
-  c.assign.ensures.1,
-  c.assign.ensures.2,
 )

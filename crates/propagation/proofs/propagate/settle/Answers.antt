@@ -1,6 +1,6 @@
 -- At the root a sweep leaves a queue, at another node its branch is one; and where the queue ends, so does propagation.
 use mathlib.Core.Path.{◌≡◌, sym, subst, ◌∙◌}
-use mathlib.Core.Bool.{Bool, true}
+use mathlib.Core.Bool.{Bool}
 use mathlib.Core.Logic.{⊎_elim}
 use mathlib.Core.List.{List}
 use Prim.Native.Nat.{ℕ, ◌-◌, ◌<◌}
@@ -15,7 +15,7 @@ use Rattle.search.specs.Models.{ClausesIn}
 use Rattle.propagation.specs.Trail.{plain, latest_branch, Marked}
 use Rattle.propagation.specs.Propagation.{Every, Heard, Followed, Settling, Rested}
 use Rattle.propagation.proofs.Triples.{triples_in}
-use Rattle.propagation.proofs.Moves.{moved_then, queue_root, queue_branch, followed_settles}
+use Rattle.propagation.proofs.Moves.{moved_then, queue_branch, followed_settles}
 use Rattle.propagation.proofs.propagate.settle.Goals as goal
 use Rattle.propagation.proofs.propagate.settle.Goals.{After-sweep-s, Else-n-eq0, Start}
 
@@ -65,20 +65,6 @@ module _ (c : Else-n-eq0) where
   rested : Rested (cl (goal.at.Else-n-eq0 c).Start) (latest_branch (a (goal.at.Else-n-eq0 c).Start) (t (goal.at.Else-n-eq0 c).Start) c.args.n) × Marked (a (goal.at.Else-n-eq0 c).Start) (plain (t (goal.at.Else-n-eq0 c).Start) (c.args.n - 1))
   rested = ⊎_elim (λ e. absurd (omega (arith, e, some))) (λ r. r) c.requires.3.made
 
-pub sweep-s-requires : goal.sweep-s-requires
-sweep-s-requires c = (c.requires.0, c.requires.1, omega (arith, c.requires.2), c.requires.4)
-
-pub follow-requires : goal.follow-requires
-follow-requires c =
-    let H = heard (goal.at.follow-requires c).After-sweep-s true c.if-s.true in (
-      (_, record { ready = ready (goal.at.follow-requires c).After-sweep-s; mirrors = c.sweep-s.ensures.1 }),
-      linked (goal.at.follow-requires c).After-sweep-s,
-      omega (arith, H.moved.used, H.moved.long_t, c.requires.2),
-      omega arith,
-      queue_root H,
-      c.sweep-s.ensures.2,
-    )
-
 pub returns-then-s : goal.returns-then-s
 returns-then-s c =
     let E = c.follow.ensures.0 in (
@@ -96,9 +82,6 @@ returns-then-n-eq0 c =
       c.sweep-s.ensures.1,
       c.sweep-s.ensures.2,
     )
-
-pub overflow_sub-n : goal.overflow_sub-n
-overflow_sub-n c = omega (arith, some (goal.at.overflow_sub-n c).Else-n-eq0)
 
 pub follow-requires-2 : goal.follow-requires-2
 follow-requires-2 c = ((_, c.requires.0), c.requires.1, c.requires.2, omega arith, queue_branch (cl (goal.at.follow-requires-2 c).Start) (a (goal.at.follow-requires-2 c).Start) (t (goal.at.follow-requires-2 c).Start) c.args.n (some (goal.at.follow-requires-2 c).Else-n-eq0) (rested (goal.at.follow-requires-2 c).Else-n-eq0).0 (rested (goal.at.follow-requires-2 c).Else-n-eq0).1, c.requires.4)

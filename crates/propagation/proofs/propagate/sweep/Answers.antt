@@ -19,6 +19,7 @@ use Rattle.propagation.proofs.propagate.sweep.Invariants.{Way}
 use Rattle.propagation.proofs.propagate.sweep.Goals.{After-heed-s, At-loop-i}
 
 -- at the loop's head
+
 module _ (h : At-loop-i) where
   abbrev cl : List ℤ
   cl = h.args.clauses.now
@@ -84,21 +85,6 @@ loop-i-init c =
       mirrors = c.requires.0.mirrors;
       counts = c.requires.3;
     }
-
-pub heed-s-requires : goal.heed-s-requires
-heed-s-requires c = (
-  (_, record { ready = ready (goal.at.heed-s-requires c).At-loop-i; mirrors = (I (goal.at.heed-s-requires c).At-loop-i).mirrors }),
-  linked (goal.at.heed-s-requires c).At-loop-i,
-  omega (arith, (ready (goal.at.heed-s-requires c).At-loop-i).long, c.loop-i-test.true),
-  omega (arith, (I (goal.at.heed-s-requires c).At-loop-i).moved.used, (I (goal.at.heed-s-requires c).At-loop-i).moved.long_t, c.requires.2),
-  (I (goal.at.heed-s-requires c).At-loop-i).counts,
-)
-
-pub overflow_add-i : goal.overflow_add-i
-overflow_add-i c = omega (arith, below (goal.at.overflow_add-i c).After-heed-s, c.ranges.many)
-
-pub loop-i-smaller : goal.loop-i-smaller
-loop-i-smaller c = omega (arith, below (goal.at.loop-i-smaller c).After-heed-s)
 
 pub loop-i-preserved : goal.loop-i-preserved
 loop-i-preserved c = record { low = omega (arith, below (goal.at.loop-i-preserved c).After-heed-s); moved = moved (goal.at.loop-i-preserved c).After-heed-s; heard = heard (goal.at.loop-i-preserved c).After-heed-s c.if-s.true; mirrors = c.heed-s.ensures.1; counts = c.heed-s.ensures.2 }

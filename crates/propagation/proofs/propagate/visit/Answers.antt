@@ -25,6 +25,7 @@ use Rattle.propagation.proofs.propagate.visit.Invariants.{Way}
 use Rattle.propagation.proofs.propagate.visit.Goals.{After-heed-s, After-loop-p, At-loop-p, Start}
 
 -- the start: the latest place among all clauses
+
 module _ (s : Start) where
   abbrev cl : List ℤ
   cl = s.args.clauses.now
@@ -169,20 +170,8 @@ module _ (c : After-loop-p) where
       (λ t. inl (met-quiet a d (met_by a d l m.1.1 t)))
       (sides a c.args.e marked l m.1.2)
 
-pub overflow_add-p : goal.overflow_add-p
-overflow_add-p c = omega (arith, in-links (goal.at.overflow_add-p c).Start)
-
-pub offset_bounds-links-e : goal.offset_bounds-links-e
-offset_bounds-links-e c = omega (arith, in-links (goal.at.offset_bounds-links-e c).Start)
-
-pub bounds-links-e : goal.bounds-links-e
-bounds-links-e c = in-links (goal.at.bounds-links-e c).Start
-
 pub loop-p-init : goal.loop-p-init
 loop-p-init c = starts (goal.at.loop-p-init c).Start _ refl
-
-pub overflow_sub-p : goal.overflow_sub-p
-overflow_sub-p c = omega (arith, c.loop-p-test.true)
 
 pub heed-s-requires : goal.heed-s-requires
 heed-s-requires c = (
@@ -192,9 +181,6 @@ heed-s-requires c = (
   omega (arith, (I (goal.at.heed-s-requires c).At-loop-p).moved.used, (I (goal.at.heed-s-requires c).At-loop-p).moved.long_t, c.requires.3),
   (I (goal.at.heed-s-requires c).At-loop-p).counts,
 )
-
-pub overflow_mul-p : goal.overflow_mul-p
-overflow_mul-p c = omega (arith, (o (goal.at.overflow_mul-p c).After-heed-s).inside)
 
 pub overflow_add-p-then-s : goal.overflow_add-p-then-s
 overflow_add-p-then-s c = omega (arith, (o (goal.at.overflow_add-p-then-s c).After-heed-s).inside)

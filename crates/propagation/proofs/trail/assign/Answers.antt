@@ -11,6 +11,7 @@ use Rattle.propagation.proofs.trail.assign.Goals as goal
 use Rattle.propagation.proofs.trail.assign.Goals.{After-unmet_with-met}
 
 -- before the mark is given
+
 module _ (c : After-unmet_with-met) where
   abbrev a : List ℕ
   a = c.args.values.now

@@ -18,6 +18,7 @@ use Rattle.propagation.proofs.trail.back.Invariants.{Way}
 use Rattle.propagation.proofs.trail.back.Goals.{After-entry, After-put, In-loop-k, Then-e-ge-FIRST}
 
 -- in a turn: the entry looked at is in the trail
+
 module _ (c : In-loop-k) where
   abbrev k : ℕ
   k = c.loop-k.k
@@ -129,44 +130,6 @@ module _ (E : After-entry) where
   entry-is : E.entry.result ≡ 2 * i (goal.at.After-entry E).After-put + 1
   entry-is = E.entry.ensures ∙ omega arith
 
-pub loop-k-init : goal.loop-k-init
-loop-k-init c =
-    let p = c.requires in
-    record { below = omega arith; long = refl; same = refl; left = refl; used = omega arith; mirrors = p.0.1.mirrors }
-
-pub offset_bounds-trail-k : goal.offset_bounds-trail-k
-offset_bounds-trail-k c = omega (arith, in_memory c)
-
-pub bounds-trail-k : goal.bounds-trail-k
-bounds-trail-k c = in-trail (goal.at.bounds-trail-k c).In-loop-k
-
-pub overflow_cast-i : goal.overflow_cast-i
-overflow_cast-i c = omega arith
-
-pub put-requires : goal.put-requires
-put-requires c = c.loop-k.invariant.mirrors
-
-pub overflow_cast-i-then-e-ge-FIRST : goal.overflow_cast-i-then-e-ge-FIRST
-overflow_cast-i-then-e-ge-FIRST c = omega arith
-
-pub entry-requires : goal.entry-requires
-entry-requires c = (omega arith, omega arith, omega arith)
-
-pub offset_bounds-trail-k-then-e-ge-FIRST : goal.offset_bounds-trail-k-then-e-ge-FIRST
-offset_bounds-trail-k-then-e-ge-FIRST c = omega (arith, in_memory (goal.at.offset_bounds-trail-k-then-e-ge-FIRST c).In-loop-k)
-
-pub bounds-trail-k-then-e-ge-FIRST : goal.bounds-trail-k-then-e-ge-FIRST
-bounds-trail-k-then-e-ge-FIRST c = in-trail (goal.at.bounds-trail-k-then-e-ge-FIRST c).In-loop-k
-
-pub offset_bounds-saved-k : goal.offset_bounds-saved-k
-offset_bounds-saved-k c = omega (arith, in-saved (goal.at.offset_bounds-saved-k c).Then-e-ge-FIRST)
-
-pub bounds-saved-k : goal.bounds-saved-k
-bounds-saved-k c = in-saved (goal.at.bounds-saved-k c).Then-e-ge-FIRST
-
-pub overflow_cast-i-then-e-ge-FIRST-2 : goal.overflow_cast-i-then-e-ge-FIRST-2
-overflow_cast-i-then-e-ge-FIRST-2 c = omega arith
-
 pub assign-unmet-requires : goal.assign-unmet-requires
 assign-unmet-requires c = (
   (_, record { ready = subst (λ (v : ℕ). Ready (cl (goal.at.assign-unmet-requires c).After-put) c.requires.0.0 v) (sym (long (goal.at.assign-unmet-requires c).After-put)) c.requires.0.1.ready; mirrors = c.put.ensures.1 }),
@@ -178,14 +141,8 @@ assign-unmet-requires c = (
   counts (goal.at.assign-unmet-requires c).Then-e-ge-FIRST,
 )
 
-pub overflow_add-result : goal.overflow_add-result
-overflow_add-result c = omega (arith, in_memory (goal.at.overflow_add-result c).In-loop-k)
-
 pub returns-then-e-ge-FIRST : goal.returns-then-e-ge-FIRST
 returns-then-e-ge-FIRST c = (resumed (goal.at.returns-then-e-ge-FIRST c).Then-e-ge-FIRST _ _ _ c.assign-unmet.ensures.0 (ap (set (t (goal.at.returns-then-e-ge-FIRST c).After-put) (k (goal.at.returns-then-e-ge-FIRST c).In-loop-k - 1)) (entry-is (goal.at.returns-then-e-ge-FIRST c).After-entry)) c.assign-unmet.ensures.2, c.assign-unmet.ensures.1)
-
-pub loop-k-smaller : goal.loop-k-smaller
-loop-k-smaller c = omega (arith, c.loop-k-test.true)
 
 pub loop-k-preserved : goal.loop-k-preserved
 loop-k-preserved c = goes_on (goal.at.loop-k-preserved c).After-put (omega (arith, c.if-e-ge-FIRST.false))

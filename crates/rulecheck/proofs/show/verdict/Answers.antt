@@ -1,5 +1,6 @@
+use Rattle.std.proofs.lemmas.Result.{on_err_weaker}
 use Rattle.std.proofs.KnownBytes.{Appends-trans}
-use Rattle.rulecheck.proofs.Written.{on_err, on_err_more, begins_first, begins_then}
+use Rattle.rulecheck.proofs.Written.{on_err, begins_first, begins_then}
 use Rattle.rulecheck.proofs.show.verdict.Goals as goal
 
 pub returns-in_err-begin-clause-error : goal.returns-in_err-begin-clause-error
@@ -15,5 +16,6 @@ returns-in_err-begin-2-clause-error g c =
 
 pub returns-clause-error : goal.returns-clause-error
 returns-clause-error g c =
-    on_err_more _ _ _ _ _ c.end-2.result (Appends-trans _ _ _ _ _ c.in_ok-begin.ensures.written c.in_ok-end.ensures.written)
-    (on_err_more _ _ _ _ _ c.end-2.result c.in_ok-begin-2.ensures.written c.end-2.ensures.error)
+    on_err_weaker c.end-2.result
+    (λ e. begins_then _ _ _ _ _ (Appends-trans _ _ _ _ _ c.in_ok-begin.ensures.written c.in_ok-end.ensures.written) (begins_then _ _ _ _ _ c.in_ok-begin-2.ensures.written e))
+    c.end-2.ensures.error

@@ -17,28 +17,6 @@ loop-j-init c =
       λ φ v p P av o B sh. push_begins φ a.s v a.r p a.before o a.c _ B c.requires.room.0 c.requires.room.3 c.requires.before_le_states c.requires.low.1 sh,
     )
 
-pub push-d-requires-clause-room : goal.push-d-requires-clause-room
-push-d-requires-clause-room c =
-    let inv = c.loop-j.invariant in
-    let next = inv.1.next in
-    let long = c.requires.long in (next.room, c.requires.room.1, c.requires.room.2, omega (arith, c.loop-j-test.true, next.states))
-
-pub push-d-requires-clause-indexed : goal.push-d-requires-clause-indexed
-push-d-requires-clause-indexed c =
-    let inv = c.loop-j.invariant in
-    let next = inv.1.next in
-    let long = c.requires.long in inv.6
-
-pub push-d-requires-clause-long : goal.push-d-requires-clause-long
-push-d-requires-clause-long c =
-    let inv = c.loop-j.invariant in
-    let next = inv.1.next in
-    let long = c.requires.long in (long.0, omega (arith, long.1, inv.2), omega (arith, long.2, inv.3))
-
-pub push-d-requires-clause-low : goal.push-d-requires-clause-low
-push-d-requires-clause-low c =
-    c.requires.low.0
-
 pub loop-j-preserved : goal.loop-j-preserved
 loop-j-preserved c =
     let a = c.args in

@@ -1,5 +1,3 @@
-use native.Mathlib.Omega.{arith}
-use mathlib.Core.Path.{◌≡◌}
 use borrow.Author.Rules.{rules}
 use Rattle.structure.specs.Evaluation.{max_atoms}
 use Rattle.structure.specs.Rows.{atom_reaches}
@@ -9,9 +7,6 @@ use Rattle.structure.proofs.words.write_atoms.Goals as goal
 
 pub loop-j-init : goal.loop-j-init
 loop-j-init c = (search rules, scatter_none 1 _ c.args.marks.now)
-
-pub put-requires : goal.put-requires
-put-requires c = omega (arith, c.loop-j.invariant.1.long)
 
 pub loop-j-preserved : goal.loop-j-preserved
 loop-j-preserved c =
@@ -24,9 +19,3 @@ loop-j-preserved c =
           c.wide-word.ensures c.value.ensures c.both-here.ensures c.atom_in.ensures.0)
           l.invariant.1),
     )
-
-pub returns : goal.returns
-returns c =
-    let l = c.loop-j in
-    let e : l.j ≡ c.args.v = omega (arith, l.invariant.0) in
-    rw e at l.invariant.1

@@ -1,6 +1,5 @@
 use Prim.Native.Nat.{◌*◌, ◌/◌}
 use native.Mathlib.Omega.{arith}
-use mathlib.Core.Path.{◌≡◌}
 use borrow.Author.Rules.{rules}
 use Rattle.encoding.specs.Limits.{max_states}
 use Rattle.structure.specs.Rows.{table_reaches}
@@ -11,17 +10,10 @@ use Rattle.structure.proofs.words.write_table.Goals as goal
 pub loop-j-init : goal.loop-j-init
 loop-j-init c = (search rules, scatter_none 1 _ c.args.work.now)
 
-pub overflow_mul-atom : goal.overflow_mul-atom
-overflow_mul-atom c = omega (arith, c.atom_in-atom.ensures.1)
-
-pub put-requires : goal.put-requires
-put-requires c = omega (arith, c.atom_in-atom.ensures.1, c.loop-j.invariant.1.long)
-
 pub loop-j-preserved : goal.loop-j-preserved
 loop-j-preserved c =
     let l = c.loop-j in
     let a = c.args in
-    let p = c.requires in
     let few = c.atom_in-atom.ensures.1 in (
       search rules,
       rw c.put.ensures
@@ -30,9 +22,3 @@ loop-j-preserved c =
           c.wide-word.ensures c.value.ensures c.both-known.ensures c.atom_in-atom.ensures.0)
           l.invariant.1),
     )
-
-pub returns : goal.returns
-returns c =
-    let l = c.loop-j in
-    let e : l.j ≡ c.args.v = omega (arith, l.invariant.0) in
-    rw e at l.invariant.1
