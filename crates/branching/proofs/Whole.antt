@@ -16,11 +16,11 @@ use Rattle.clauses.specs.Clause.{Clause, triples}
 use Rattle.search.specs.Search.{all_met, zeros, lowest, clash, calm, settle, Run, sat, unsat, plus, on_first, node, run, nodes}
 use Rattle.search.specs.Models.{ClausesIn}
 use Rattle.propagation.specs.Unmet.{unmet_among}
-use Rattle.propagation.specs.Trail.{first_branch, entry_for, plain, noted, Branch, branch, second, pending, latest_branch, AllSaved, Branched, Backed, Marked}
+use Rattle.propagation.specs.Trail.{first_branch, entry_for, plain, noted, Branch, branch, second, pending, latest_branch, AllSaved, Branched, Entered, Marked}
 use Rattle.propagation.specs.Propagation.{settled_by, Settling, Rested, Started}
 use Rattle.branching.specs.Nodes.{node_of, on_fail, finished, whole, above, Stepped}
-use Rattle.propagation.specs.declared.trail.Step.{Step}
-use Rattle.propagation.specs.declared.trail.Step.TheVariants.{Yes as StepYes, No as StepNo, Next}
+use Rattle.std.specs.Prelude.{Some, None}
+use Rattle.branching.specs.declared.branch.Verdict.TheVariants.{Yes as VerdictYes, No as VerdictNo}
 use Rattle.search.proofs.Marks.{zeros-none, zeros-set, zeros-pos, lowest-past}
 use Rattle.propagation.proofs.Marked.{marked_in, given-mark}
 use Rattle.propagation.proofs.Pending.{pending-branch, branch-noted, plain-last, pending-entry}
@@ -112,8 +112,8 @@ module _ {cl : List ℤ} {n : ℕ} {a t b u : List ℕ} {top : ℕ} where
   unfolding settled_by
   clashed S = sym S.is
 
-  pub stepped_yes : Settling cl n a t b u true top → all_met b (triples cl) ≡ true → (sv : List ℕ) → Stepped cl n a t b u sv StepYes
-  stepped_yes S m sv = whole-yes (triples cl) a (pending a t n) b (calmly S) m
+  pub stepped_yes : Settling cl n a t b u true top → all_met b (triples cl) ≡ true → (sv : List ℕ) (v : ℕ) → Stepped cl n a t b u sv top v (Some VerdictYes)
+  stepped_yes S m sv v = whole-yes (triples cl) a (pending a t n) b (calmly S) m
 
   -- it branches: some variable is unassigned, and so there is room on the trail
   module _ (h : ClausesIn (length a) (triples cl)) (S : Settling cl n a t b u true top) (m : all_met b (triples cl) ≡ false) where
@@ -163,9 +163,9 @@ module _ {cl : List ℤ} {n : ℕ} {a t b u : List ℕ} {top : ℕ} where
           entry d k = pending-entry b u top d (subst (λ (P : List Branch). Memᴰ d P) (sym S.back) k)
 
       pub stepped_branch : Started cl a t n → (sv : List ℕ) → top < length sv → AllSaved cl sv (pending a t n)
-          → {b' u' sv' : List ℕ} {r : Step} → Branched cl top b u sv b' u' sv' r → Stepped cl n a t b' u' sv' r
-      stepped_branch s sv o p {b'} {u'} {sv'} {r} R =
-          subst (λ (x : Step). Stepped cl n a t b' u' sv' x) (sym R.leads)
+          → {b' u' sv' : List ℕ} {k v : ℕ} → Branched cl top b u sv b' u' sv' k v → Stepped cl n a t b' u' sv' k v None
+      stepped_branch s sv o p {b'} {u'} {sv'} {k} {v} R =
+          subst (λ (x : ℕ). Stepped cl n a t b' u' sv' x v None) (sym R.leads)
           record {
             is =
                 whole-branch (triples cl) a (pending a t n) top b h (calmly S) m
@@ -175,14 +175,15 @@ module _ {cl : List ℤ} {n : ℕ} {a t b u : List ℕ} {top : ℕ} where
             room = omega (arith, S.used, ap zeros R.marks, zeros-set b i 0 B.low B.open_low);
             started = rw (R.marks, R.notes) (started s);
             saved = rw (R.marks, R.notes, R.saves) (saved sv o p);
-            counts = refl;
+            counts = R.unmet;
           }
 
+  pub stepped_none : Settling cl n a t b u false top → (sv : List ℕ) → (b' u' : List ℕ) (k v : ℕ) → Entered cl top b u b' u' k v false → Stepped cl n a t b' u' sv k v (Some VerdictNo)
+  stepped_none S sv b' u' k v e = whole-none (triples cl) a (pending a t n) (clashed S) (sym S.back ∙ e.0)
+
   pub stepped_back : Settling cl n a t b u false top → Started cl a t n → (sv : List ℕ) → AllSaved cl sv (pending a t n)
-      → (b' u' : List ℕ) (r : Step) → Backed cl top b u b' u' r → Stepped cl n a t b' u' sv r
-  stepped_back S s sv p b' u' StepYes e = absurd e
-  stepped_back S s sv p b' u' StepNo e = whole-none (triples cl) a (pending a t n) (clashed S) (sym S.back ∙ e)
-  stepped_back S s sv p b' u' (Next k v) e =
+      → (b' u' : List ℕ) (k v : ℕ) → Entered cl top b u b' u' k v true → Stepped cl n a t b' u' sv k v None
+  stepped_back S s sv p b' u' k v e =
       let d = latest_branch b' u' k in
       let is : pending a t n ≡ d ∷ pending b' u' k = sym S.back ∙ e.is in
       let kept : (x : Branch) → Memᴰ x (d ∷ pending b' u' k) → Memᴰ x (pending a t n) =

@@ -15,6 +15,12 @@ verdict (unsat n) = No n
 unfoldable pub answer : ℕ → Run → Outcome
 answer budget R = cond (finishes budget R) (verdict R) (Stopped budget)
 
+-- "Answers by number": "1 yes", "2 no", "3 stopped"
+abbrev pub number_of : Outcome → ℕ
+number_of (Yes n) = 1
+number_of (No n) = 2
+number_of (Stopped n) = 3
+
 -- of the clauses, values and working space that came in, the values and working space that are left, and the result r
 pub record Answered (clauses : List ℤ) (values work : List ℕ) (budget : ℕ) (values' work' : List ℕ) (r : Outcome) : Type 0 where
   pub gives : r ≡ answer budget (run (length values) (triples clauses))

@@ -1,10 +1,10 @@
 -- Document 01, "The search", node by node: what is left to do, one step of it, and a run within a budget. Nothing outside the crate cites this.
 -- Assumes nothing.
-use Rattle.std.specs.Prelude.{◌≡◌, cond, List, [], ◌∷◌, map, ℕ, suc, ◌+◌, ◌-◌, ◌%◌, ◌≤◌, ◌<◌, eqb, length, replicate, ℤ}
+use Rattle.std.specs.Prelude.{◌≡◌, Option, Some, None, cond, List, [], ◌∷◌, map, ℕ, suc, ◌+◌, ◌-◌, ◌%◌, ◌≤◌, ◌<◌, eqb, length, replicate, ℤ}
 use Rattle.clauses.specs.Clause.{Clause, triples}
 use Rattle.search.specs.Search.{zeros, Run, sat, unsat, plus, node, nodes}
-use Rattle.propagation.specs.declared.trail.Step.{Step}
-use Rattle.propagation.specs.declared.trail.Step.TheVariants.{Yes as StepYes, No as StepNo, Next}
+use Rattle.branching.specs.declared.branch.Verdict.{Verdict}
+use Rattle.branching.specs.declared.branch.Verdict.TheVariants.{Yes as VerdictYes, No as VerdictNo}
 use Rattle.branching.specs.declared.Outcome.{Outcome}
 use Rattle.branching.specs.declared.Outcome.TheVariants.{Yes, No, Stopped}
 use Rattle.propagation.specs.Unmet.{Counts}
@@ -40,10 +40,10 @@ pub record Further (cl : List ℤ) (n : ℕ) (a t a' t' s : List ℕ) (k u : ℕ
   pub saved : AllSaved cl s (pending a' t' k)
   pub counts : Counts cl a' u
 
-abbrev pub Stepped : List ℤ → ℕ → List ℕ → List ℕ → List ℕ → List ℕ → List ℕ → Step → Type 0
-Stepped cl n a t a' t' s StepYes = whole cl a t n ≡ sat a' 1
-Stepped cl n a t a' t' s StepNo = whole cl a t n ≡ unsat 1
-Stepped cl n a t a' t' s (Next k u) = Further cl n a t a' t' s k u
+abbrev pub Stepped : List ℤ → ℕ → List ℕ → List ℕ → List ℕ → List ℕ → List ℕ → ℕ → ℕ → Option Verdict → Type 0
+Stepped cl n a t a' t' s k u (Some VerdictYes) = whole cl a t n ≡ sat a' 1
+Stepped cl n a t a' t' s k u (Some VerdictNo) = whole cl a t n ≡ unsat 1
+Stepped cl n a t a' t' s k u None = Further cl n a t a' t' s k u
 
 -- a run R within a budget: the marks at a yes, and the count
 abbrev pub Ran : Run → ℕ → List ℕ → Outcome → Type 0

@@ -4,21 +4,34 @@
 
 mod branch;
 
-ghost use Rattle.std.specs.Prelude.{◌≡◌, map, ◌%◌, ◌≤◌, length};
+ghost use Rattle.std.specs.Prelude.{◌≡◌, map, ◌%◌, ◌≤◌, length, replicate};
 ghost use Rattle.propagation.specs.Ready.{Ready, space_for};
-ghost use Rattle.branching.specs.Answered.{Answered};
-ghost use Rattle.branching.specs.Nodes.{left_by};
+ghost use Rattle.branching.specs.Answered.{Answered, number_of};
+ghost use Rattle.clauses.specs.Clause.{triples};
+ghost use Rattle.branching.specs.Nodes.{left_by, node_of, Ran};
 
 use branch::walk;
-use ground::{clear_u8, clear_u16};
-use propagation::link;
+use propagation::{Assignment, Formula, link};
 
-// The answer, with its count: the nodes entered up to the verdict, or the budget.
-#[derive(Clone, Copy)]
+// The answer, with its count: the nodes entered up to the verdict, or the budget. The count stands in each case, as documents and definitions have it.
+#[derive(Clone, Copy, PartialEq, Eq, Debug)]
 pub enum Outcome {
     Yes(u32),
     No(u32),
     Stopped(u32),
+}
+
+// Document 01's number: 1 yes, 2 no, 3 stopped.
+impl From<Outcome> for u32 {
+    ghost from_gives = { λ o n. n ≡ number_of o };
+
+    fn from(outcome: Outcome) -> u32 {
+        match outcome {
+            Outcome::Yes(_) => 1,
+            Outcome::No(_) => 2,
+            Outcome::Stopped(_) => 3,
+        }
+    }
 }
 
 // Searches `many` clauses within `budget` nodes. What the values and the working space hold at entry does not matter; the working space, in which the clauses
@@ -36,30 +49,48 @@ pub fn search(
     ensures { Answered clauses.now values.old work.old budget values.new work.new result }
 {
     let variables = values.len();
-    let places = work.len();
-    clear_u8(values, variables);
-    let mut truth = [1u8; 8192];
-    truth[4096] = 0;
-    let mut trail = [0u16; 4095];
-    let mut saved = [0u16; 4095];
+    values.fill(0);
     link(clauses, variables, work);
-    let outcome = walk(
-        clauses, many, work, values, &mut truth, &mut trail, &mut saved, budget,
-    );
-    clear_u16(work, places);
+    let formula = Formula {
+        clauses,
+        many,
+        variables,
+        links: work,
+    };
+    let outcome = run(formula, values, budget);
+    work.fill(0);
     leave(outcome, values);
     outcome
 }
 
-// What an outcome leaves in the values: those of a yes, or none.
+// Enters nodes from the root on, where nothing is assigned.
+fn run(formula: Formula, values: &mut [u8], budget: u32) -> Outcome
+    requires { values.old ≡ replicate formula.variables 0 }
+    ensures { Ran (node_of (triples formula.entry.clauses.now) values.old) budget values.new result }
+{
+    let mut truth = [1u8; 8192];
+    truth[4096] = 0;
+    let mut trail = [0u16; 4095];
+    let mut saved = [0u16; 4095];
+    let mut node = Assignment {
+        formula,
+        values,
+        truth: &mut truth,
+        trail: &mut trail,
+        top: 0,
+        unmet: formula.many,
+    };
+    walk(&mut node, &mut saved, budget)
+}
+
+// What an outcome leaves in the values: those of a yes, or none. A no and a stop stand apart, as each has a wrong program that is refused.
 fn leave(outcome: Outcome, values: &mut [u8])
     ensures { values.new ≡ left_by outcome values.old }
 {
-    let variables = values.len();
     match outcome {
         Outcome::Yes(_) => finish(values),
-        Outcome::No(_) => clear_u8(values, variables),
-        Outcome::Stopped(_) => clear_u8(values, variables),
+        Outcome::No(_) => values.fill(0),
+        Outcome::Stopped(_) => values.fill(0),
     }
 }
 
@@ -67,9 +98,7 @@ fn leave(outcome: Outcome, values: &mut [u8])
 fn finish(values: &mut [u8])
     ensures { values.new ≡ map (λ x. x % 2) values.old }
 {
-    let mut i: usize = 0;
-    while i < values.len() {
-        values[i] = values[i] % 2;
-        i += 1;
+    for x in values.iter_mut() {
+        *x %= 2;
     }
 }

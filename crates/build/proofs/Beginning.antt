@@ -11,25 +11,25 @@ use Rattle.clauses.specs.Clause.{literal, one}
 use Rattle.encoding.specs.Build as def
 use Rattle.encoding.specs.Build.{ask, asked}
 use Rattle.encoding.specs.Shows.{buffers, Shows, Next, Asks, Writes, at_start}
-use Rattle.encoding.specs.declared.counts.Counts.{Counts}
-use Rattle.encoding.specs.declared.asking.Asked.{Asked}
+use Rattle.encoding.specs.Shows.{Tally}
+use Rattle.encoding.specs.Shows.{Reply}
 use Rattle.encoding.proofs.Steps.{next-then, write-next}
 use Rattle.rules.specs.Does.{Part}
 use Rattle.rules.proofs.Doing.{asks_part, literal-part}
 use Rattle.build.specs.Steps.{Begins, bare}
 
-pub begin_does : {c : Counts} {ws ws' : List ℕ} {cs cs' k : List ℤ} {x : Asked} {r : Counts} (l : Ask) (ns : List Node) (root : ℕ) → c ≡ at_start → Part l (signed ns root false) → Asks c 1 l.key ws ws' x → Writes x.counts k cs cs' r
+pub begin_does : {c : Tally} {ws ws' : List ℕ} {cs cs' k : List ℤ} {x : Reply} {r : Tally} (l : Ask) (ns : List Node) (root : ℕ) → c ≡ at_start → Part l (signed ns root false) → Asks c 1 l.key ws ws' x → Writes x.counts k cs cs' r
     → k ≡ one (literal l.minus x.variable) → Begins root ns r ws ws' cs cs'
 unfolding def.start
 begin_does {c} {ws} {ws'} {cs} {cs'} {k} {x} {r} l ns root e P ax w i =
     record {
       stays = record {
-        next = subst (λ (z : Counts). Next z r ws ws') e (next-then ax.next (write-next w ws'));
-        same = w.states ∙ ax.same ∙ ap (λ (z : Counts). z.states) e;
+        next = subst (λ (z : Tally). Next z r ws ws') e (next-then ax.next (write-next w ws'));
+        same = w.states ∙ ax.same ∙ ap (λ (z : Tally). z.states) e;
       };
       does = λ o st sh.
           let p = signed ns root false in
           let A = ask 1 p bare in
-          let s0 : Shows o c (buffers st ws cs) bare = subst (λ (z : Counts). Shows o z (buffers st ws cs) bare) (sym e) sh in
+          let s0 : Shows o c (buffers st ws cs) bare = subst (λ (z : Tally). Shows o z (buffers st ws cs) bare) (sym e) sh in
           w.does o st ws' A (one (asked 1 p A)) refl (λ g. i ∙ rw (literal-part ax p P o st cs bare s0 g)) (asks_part ax p P o st cs bare s0);
     }

@@ -7,7 +7,7 @@ use Rattle.signed.specs.Signed.{signed}
 use Rattle.encoding.specs.Build.{Build, variables#, norecord, by, rule1, phase1, expand, start, plan, built}
 use Rattle.encoding.specs.Limits.{max_states, max_variables, max_clauses}
 use Rattle.encoding.specs.Shows.{at_start, Room, Buffers, buffers, Shows, Next, Low, Parents}
-use Rattle.encoding.specs.declared.counts.Counts.{Counts}
+use Rattle.encoding.specs.Shows.{Tally}
 use Rattle.encoding.proofs.Settling.{Settles, Settled}
 use Rattle.rules.specs.Does.{Stays}
 
@@ -18,13 +18,13 @@ pub record Cleared (st ws : List ℕ) (cs : List ℤ) (st' ws' : List ℕ) (cs' 
   pub clauses : cs' ≡ cleared (pos 0) (3 * max_clauses) cs
 
 -- phase 1 of state s: from B to where its loop comes to its end
-pub record Settling (s : ℕ) (ns : List Node) (c r : Counts) (ws ws' : List ℕ) (cs cs' : List ℤ) : Type 0 where
+pub record Settling (s : ℕ) (ns : List Node) (c r : Tally) (ws ws' : List ℕ) (cs cs' : List ℤ) : Type 0 where
   pub stays : Stays c r ws ws'
   pub does : (root : ℕ) (o : Buffers) (st : List ℕ) (B R : Build) → Settles (by (plan ns root) (rule1 (plan ns root)) s) variables# B R
       → Shows o c (buffers st ws cs) B → Shows o r (buffers st ws' cs') R
 
 -- the state at place j
-pub record Expands (j : ℕ) (ns : List Node) (c r : Counts) (b b' : Buffers) : Type 0 where
+pub record Expands (j : ℕ) (ns : List Node) (c r : Tally) (b b' : Buffers) : Type 0 where
   pub next : Next c r b.words b'.words
   pub low : Low b'.states
   pub parents : Parents r.states (j + 2) b'.states
@@ -35,10 +35,10 @@ pub record Expands (j : ℕ) (ns : List Node) (c r : Counts) (b b' : Buffers) : 
 abbrev pub bare : Build
 bare = record { states = norecord ∷ []; variables = []; clauses = [] }
 
-pub record Begins (root : ℕ) (ns : List Node) (r : Counts) (ws ws' : List ℕ) (cs cs' : List ℤ) : Type 0 where
+pub record Begins (root : ℕ) (ns : List Node) (r : Tally) (ws ws' : List ℕ) (cs cs' : List ℤ) : Type 0 where
   pub stays : Stays at_start r ws ws'
   pub does : (o : Buffers) (st : List ℕ) → Shows o at_start (buffers st ws cs) bare → Shows o r (buffers st ws' cs') (start (signed ns root false))
 
-pub record Runs (root : ℕ) (ns : List Node) (r : Counts) (b b' : Buffers) : Type 0 where
+pub record Runs (root : ℕ) (ns : List Node) (r : Tally) (b b' : Buffers) : Type 0 where
   pub room : Room r
   pub does : (o : Buffers) → Settled (plan ns root) → Shows o at_start b bare → Shows o r b' (built ns root)

@@ -4,56 +4,70 @@
 mod phases;
 mod states;
 
-ghost use Rattle.std.specs.Prelude.{◌≡◌, ◌<◌, length};
-ghost use Rattle.book.specs.Rulebook.{table_of};
-ghost use Rattle.book.specs.Told.{Sound};
+ghost use Rattle.std.specs.Prelude.{◌≡◌, ◌<◌};
+ghost use Rattle.book.specs.Held.{nodes_in};
+ghost use Rattle.book.specs.declared.refusal.NoAnswer.TheVariants.{Oversized as oversized};
+ghost use Rattle.records.specs.Table.{numbers_of};
 ghost use Rattle.encoding.specs.Build.{built};
 ghost use Rattle.encoding.specs.Limits.{Long};
 ghost use Rattle.build.specs.Filled.{Filled};
 ghost use Rattle.build.specs.Steps.{Cleared};
 
+use book::{Book, NoAnswer};
 use encoding::Build;
-use ground::{clear_i16, clear_u16, clear_u32};
+use ground::clear;
+use records::State;
 use states::run;
 
-// The build stands in the buffers, with these totals; or it is over a limit (15).
-#[derive(Clone, Copy)]
-pub enum Built {
-    Whole(Build),
-    Over,
+// The build is over a limit.
+#[derive(Clone, Copy, PartialEq, Eq, Debug)]
+pub struct Oversized;
+
+impl From<Oversized> for NoAnswer {
+    ghost from_gives = { λ o n. n ≡ oversized };
+
+    fn from(_: Oversized) -> NoAnswer {
+        NoAnswer::Oversized
+    }
 }
 
-// Builds the clauses of node `root` of an accepted book.
+// An unused place of the state records.
+const UNUSED: State = State {
+    parent: 0,
+    relation: 0,
+    maker: 0,
+};
+
+// Builds the clauses of node `root`: the build stands in the buffers, with these totals; or it is over a limit (15).
 pub fn fill(
-    book: &[u8],
-    offset: usize,
-    nodes: usize,
+    book: &Book,
     root: usize,
-    states: &mut [u16],
+    states: &mut [State],
     words: &mut [u32],
     clauses: &mut [i16],
-) -> Built
-    requires sound { Sound book.now offset × (nodes ≡ length (table_of book.now)) }
-    requires root_in_bounds { root < length (table_of book.now) }
-    requires long { Long states.old words.old clauses.old }
-    ensures { Filled (built (table_of book.now) root) states.old words.old clauses.old
-        states.new words.new clauses.new result }
+) -> Result<Build, Oversized>
+    requires root { root < book.now.nodes }
+    requires long { Long (numbers_of states.old) words.old clauses.old }
+    ensures { Filled (built (nodes_in book.now) root)
+        (numbers_of states.old) words.old clauses.old
+        (numbers_of states.new) words.new clauses.new result }
 {
-    clear(states, words, clauses);
-    let d = run(book, offset, nodes, root, states, words, clauses);
-    if d.over != 0 {
-        clear(states, words, clauses);
-        return Built::Over;
+    clear_all(states, words, clauses);
+    match run(book, root, states, words, clauses) {
+        Ok(counts) => Ok(Build::from(counts)),
+        Err(_) => {
+            clear_all(states, words, clauses);
+            Err(Oversized)
+        }
     }
-    Built::Whole(d.totals())
 }
 
 // All 0 up to the stated sizes.
-fn clear(states: &mut [u16], words: &mut [u32], clauses: &mut [i16])
-    requires { Long states.old words.old clauses.old }
-    ensures { Cleared states.old words.old clauses.old states.new words.new clauses.new }
+fn clear_all(states: &mut [State], words: &mut [u32], clauses: &mut [i16])
+    requires { Long (numbers_of states.old) words.old clauses.old }
+    ensures { Cleared (numbers_of states.old) words.old clauses.old (numbers_of states.new) words.new clauses.new }
 {
-    clear_u16(states, 3 * Build::STATES);
-    clear_u32(words, Build::VARIABLES);
-    clear_i16(clauses, 3 * Build::CLAUSES);
+    clear(states, UNUSED, Build::STATES);
+    clear(words, 0, Build::VARIABLES);
+    clear(clauses, 0, 3 * Build::CLAUSES);
 }

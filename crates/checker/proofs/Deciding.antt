@@ -14,27 +14,19 @@ use Rattle.branching.specs.Answered.{Answered}
 use Rattle.branching.specs.declared.Outcome.{Outcome}
 use Rattle.branching.specs.declared.Outcome.TheVariants as o
 use Rattle.meaning.specs.Answers.{verdict}
-use Rattle.checker.specs.Checked.{ended, told}
+use Rattle.checker.specs.Checked.{ended, ended_by}
 use Rattle.checker.specs.Steps.{run_of, decided, space, Decided, Searchable}
-use Rattle.checker.specs.declared.Answer as code
-use Rattle.checker.specs.declared.Answer.TheVariants.{Yes, No, Stopped}
 
--- the search's outcome with the totals of its build
-abbrev pub with_totals : Build → Outcome → code.Answer
-with_totals b (o.Yes n) = Yes b n
-with_totals b (o.No n) = No b n
-with_totals b (o.Stopped n) = Stopped b n
-
-told-answer : (b : Build) (budget : ℕ) (R : Run) → told (with_totals b (search.answer budget R)) ≡ decided budget b R
+told-answer : (b : Build) (budget : ℕ) (R : Run) → ended_by b (search.answer budget R) ≡ decided budget b R
 unfolding decided search.answer search.verdict verdict nodes
 told-answer b budget (sat a n) = go (finishes budget (sat a n))
   where
-    go : (f : Bool) → told (with_totals b (cond f (o.Yes n) (o.Stopped budget))) ≡ ended (cond f 1 3) b (cond f n budget)
+    go : (f : Bool) → ended_by b (cond f (o.Yes n) (o.Stopped budget)) ≡ ended (cond f 1 3) b (cond f n budget)
     go true = refl
     go false = refl
 told-answer b budget (unsat n) = go (finishes budget (unsat n))
   where
-    go : (f : Bool) → told (with_totals b (cond f (o.No n) (o.Stopped budget))) ≡ ended (cond f 2 3) b (cond f n budget)
+    go : (f : Bool) → ended_by b (cond f (o.No n) (o.Stopped budget)) ≡ ended (cond f 2 3) b (cond f n budget)
     go true = refl
     go false = refl
 
@@ -46,10 +38,10 @@ module _ {b : Build} {budget : ℕ} {cs : List ℤ} {vs wk vs₁ wk₁ : List �
   run_is : run (length (take b.variables vs)) (triples (take (3 * b.clauses) cs)) ≡ run_of b cs
   run_is = ap (λ (v : ℕ). run v (triples (take (3 * b.clauses) cs))) long
 
-  pub search_decided : (r : code.Answer) → r ≡ with_totals b x → Decided b budget cs vs wk (vs₁ ++ drop b.variables vs) (wk₁ ++ drop (space b) wk) r
-  search_decided r e =
+  pub search_decided : Decided b budget cs vs wk (vs₁ ++ drop b.variables vs) (wk₁ ++ drop (space b) wk) (record { totals = b; outcome = x })
+  search_decided =
       record {
-        answer = ap told (e ∙ ap (with_totals b) (found.gives ∙ ap (search.answer budget) run_is)) ∙ told-answer b budget (run_of b cs);
+        answer = ap (ended_by b) (found.gives ∙ ap (search.answer budget) run_is) ∙ told-answer b budget (run_of b cs);
         values = ap (λ (l : List ℕ). l ++ drop b.variables vs) (found.leaves ∙ ap (λ (v : ℕ). left budget v (run v (triples (take (3 * b.clauses) cs)))) long);
         work = ap (λ (l : List ℕ). l ++ drop (space b) wk) (found.clears ∙ ap (λ (k : ℕ). replicate k 0) (length-take-le (space b) wk ready.work));
       }

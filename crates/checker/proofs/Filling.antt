@@ -1,5 +1,5 @@
 -- From what the build and the search leave in the buffers to what the definition says that they hold. Assumes nothing.
-use Prim.Native.Nat.{ℕ, ◌*◌}
+use Prim.Native.Nat.{ℕ, ◌*◌, ◌<◌}
 use native.Mathlib.Omega.{arith}
 use mathlib.Core.Path.{◌≡◌, refl, sym, ap, ◌∙◌, subst}
 use mathlib.Core.Bool.{Bool, true, false, cond}
@@ -11,43 +11,43 @@ use Rattle.ground.proofs.Buffers.{length-filled, take-filled, zeros-filled, over
 use Rattle.clauses.specs.Clause.{triples}
 use Rattle.clauses.proofs.Numbers.{length-numbers, triples-numbers}
 use Rattle.book.specs.Rulebook.{table_of}
-use Rattle.book.specs.declared.Header.{Header}
+use Rattle.book.specs.Told.{Sound}
 use Rattle.book.proofs.Accepted.{sound-below}
 use Rattle.encoding.specs.Build.{Build, built, variables#, clauses#}
 use Rattle.encoding.specs.Limits.{max_states, max_variables, max_clauses, oversized, state_buffer, word_buffer, clause_buffer}
 use Rattle.encoding.specs.declared.counts.Build as counts
 use Rattle.encoding.proofs.Bounds.{clauses-range, clauses-threes}
 use Rattle.build.specs.Filled.{Filled, built_of, totals}
-use Rattle.build.specs.declared.Built.{Built}
-use Rattle.build.specs.declared.Built.TheVariants.{Whole, Over}
+use Rattle.std.specs.Prelude.{Result, Ok, Err}
+use Rattle.build.specs.declared.Oversized as fill
 use Rattle.search.specs.Search.{run, left}
 use Rattle.meaning.specs.Answers.{refusal, searched, judged}
 use Rattle.checker.specs.Checked.{max_work, Lent, lent, enough, holding, leaving, finished, told}
-use Rattle.checker.specs.Steps.{Fit, run_of, decided, space, Decided, Searchable}
+use Rattle.checker.specs.Steps.{run_of, decided, space, Decided, Searchable}
 use Rattle.checker.specs.declared.Answer as code
-use Rattle.checker.specs.declared.Answer.TheVariants.{Oversized}
+use Rattle.book.specs.declared.refusal.NoAnswer.TheVariants.{Oversized}
 use Rattle.checker.proofs.Promising.{enough-is, Within, within, finished-over, finished-whole, length-left}
 
 -- ---- what `fill` answered
-whole_is : (B : Build) (b : counts.Build) → Whole b ≡ built_of B → (oversized B ≡ false) × (b ≡ totals B)
+whole_is : (B : Build) (b : counts.Build) → Ok b ≡ built_of B → (oversized B ≡ false) × (b ≡ totals B)
 unfolding built_of
 whole_is B b e = go (oversized B) refl e
   where
-    go : (f : Bool) → oversized B ≡ f → Whole b ≡ cond f Over (Whole (totals B)) → (oversized B ≡ false) × (b ≡ totals B)
+    go : (f : Bool) → oversized B ≡ f → ◌≡◌ {A = Result counts.Build fill.Oversized} (Ok b) (cond f (Err (record {})) (Ok (totals B))) → (oversized B ≡ false) × (b ≡ totals B)
     go true q e = let z : ◌≡◌ {A = ℕ} 0 1 = cc in absurd (omega arith)
     go false q e = (q, cc)
 
-over-is : (B : Build) → Over ≡ built_of B → oversized B ≡ true
+over-is : (B : Build) (o : fill.Oversized) → Err o ≡ built_of B → oversized B ≡ true
 unfolding built_of
-over-is B e = go (oversized B) refl e
+over-is B o e = go (oversized B) refl e
   where
-    go : (f : Bool) → oversized B ≡ f → Over ≡ cond f Over (Whole (totals B)) → oversized B ≡ true
+    go : (f : Bool) → oversized B ≡ f → ◌≡◌ {A = Result counts.Build fill.Oversized} (Err o) (cond f (Err (record {})) (Ok (totals B))) → oversized B ≡ true
     go true q e = q
     go false q e = let z : ◌≡◌ {A = ℕ} 0 1 = cc in absurd (omega arith)
 
-module _ (bs : List ℕ) (h : Header) (fit : Fit bs h) (o : Lent) (sizes : enough o ≡ true) (budget : ℕ) where
+module _ {bs : List ℕ} {offset : ℕ} (sound : Sound bs offset) (root : ℕ) (root_in : root < length (table_of bs)) (o : Lent) (sizes : enough o ≡ true) (budget : ℕ) where
   abbrev B : Build
-  B = built (table_of bs) h.root
+  B = built (table_of bs) root
 
   abbrev vs₁ : List ℕ
   vs₁ = cleared 0 max_variables o.values
@@ -55,11 +55,11 @@ module _ (bs : List ℕ) (h : Header) (fit : Fit bs h) (o : Lent) (sizes : enoug
   abbrev wk₁ : List ℕ
   wk₁ = cleared 0 max_work o.work
 
-  module _ {st ws : List ℕ} {cs : List ℤ} {x : Built} (f : Filled B o.states o.words o.clauses st ws cs x) where
+  module _ {st ws : List ℕ} {cs : List ℤ} {x : Result counts.Build fill.Oversized} (f : Filled B o.states o.words o.clauses st ws cs x) where
     -- 15
-    pub judged-over : x ≡ Over → leaving (told Oversized) (lent st ws cs vs₁ wk₁) ≡ finished budget B o
-    judged-over e =
-        let big = over-is B (sym e ∙ f.gives) in
+    pub judged-over : (v : fill.Oversized) → x ≡ Err v → leaving (told (Err Oversized)) (lent st ws cs vs₁ wk₁) ≡ finished budget B o
+    judged-over v e =
+        let big = over-is B v (sym e ∙ f.gives) in
         (λ i.
         leaving (refusal 15 0)
         (lent ((f.in_states ∙ ap (λ b. filled 0 (3 * max_states) (cond b [] (state_buffer B)) o.states) big) i)
@@ -67,7 +67,7 @@ module _ (bs : List ℕ) (h : Header) (fit : Fit bs h) (o : Lent) (sizes : enoug
         ((f.in_clauses ∙ ap (λ b. filled (pos 0) (3 * max_clauses) (cond b [] (clause_buffer B)) o.clauses) big) i) vs₁ wk₁))
         ∙ sym (finished-over budget B o big)
 
-    module _ {b : counts.Build} (e : x ≡ Whole b) where
+    module _ {b : counts.Build} (e : x ≡ Ok b) where
       small : oversized B ≡ false
       small = (whole_is B b (sym e ∙ f.gives)).0
 
@@ -78,10 +78,10 @@ module _ (bs : List ℕ) (h : Header) (fit : Fit bs h) (o : Lent) (sizes : enoug
       low = within B small
 
       below : Rattle.logic.specs.Table.Below (table_of bs)
-      below = sound-below bs h.offset fit.sound
+      below = sound-below bs offset sound
 
       many : length (clause_buffer B) ≡ 3 * clauses# B
-      many = length-numbers B.clauses (clauses-threes (table_of bs) below h.root fit.root)
+      many = length-numbers B.clauses (clauses-threes (table_of bs) below root root_in)
 
       in_clauses : cs ≡ filled (pos 0) (3 * max_clauses) (clause_buffer B) o.clauses
       in_clauses = f.in_clauses ∙ ap (λ b. filled (pos 0) (3 * max_clauses) (cond b [] (clause_buffer B)) o.clauses) small
@@ -101,7 +101,7 @@ module _ (bs : List ℕ) (h : Header) (fit : Fit bs h) (o : Lent) (sizes : enoug
           subst (λ (d : counts.Build). (take (3 * d.clauses) cs ≡ clause_buffer B) → Searchable d cs vs₁ wk₁) (sym are)
           (λ q.
           record {
-            ready = rw q (record { long = many; range = clauses-range (table_of bs) below h.root fit.root; small = omega (arith, low.variables); few = omega (arith, low.clauses) });
+            ready = rw q (record { long = many; range = clauses-range (table_of bs) below root root_in; small = omega (arith, low.variables); few = omega (arith, low.clauses) });
             clauses = omega (arith, long-clauses, low.clauses, (enough-is o sizes).clauses);
             values = omega (arith, length-filled 0 max_variables [] o.values (enough-is o sizes).values, low.variables, (enough-is o sizes).values);
             work = omega (arith, length-filled 0 max_work [] o.work (enough-is o sizes).work, low.variables, low.clauses, (enough-is o sizes).work);
@@ -112,14 +112,14 @@ module _ (bs : List ℕ) (h : Header) (fit : Fit bs h) (o : Lent) (sizes : enoug
       unfolding searched
       run_is =
           ap (λ (l : List ℤ). run b.variables (triples l)) clauses-are
-          ∙ ap (run b.variables) (triples-numbers B.clauses (clauses-threes (table_of bs) below h.root fit.root))
+          ∙ ap (run b.variables) (triples-numbers B.clauses (clauses-threes (table_of bs) below root root_in))
           ∙ ap (λ (d : counts.Build). run d.variables B.clauses) are
 
       decided-is : decided budget b (run_of b cs) ≡ judged budget B
       unfolding decided judged
       decided-is = λ i. decided budget (are i) (run_is i)
 
-      pub judged-whole : {vs₂ wk₂ : List ℕ} (r : code.Answer) → Decided b budget cs vs₁ wk₁ vs₂ wk₂ r → leaving (told r) (lent st ws cs vs₂ wk₂) ≡ finished budget B o
+      pub judged-whole : {vs₂ wk₂ : List ℕ} (r : code.Answer) → Decided b budget cs vs₁ wk₁ vs₂ wk₂ r → leaving (told (Ok r)) (lent st ws cs vs₂ wk₂) ≡ finished budget B o
       judged-whole {vs₂} {wk₂} r d =
           (λ i. leaving ((d.answer ∙ decided-is) i) (lent (states i) (words i) (in_clauses i) (values i) (work i)))
           ∙ sym (finished-whole budget B o small)

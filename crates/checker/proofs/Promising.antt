@@ -12,7 +12,7 @@ use Rattle.ground.proofs.Tests.{true-false}
 use Rattle.logic.specs.Table.{Node}
 use Rattle.logic.specs.Truth.{Holds}
 use Rattle.logic.specs.Finite.{Finite, State, structure}
-use Rattle.book.specs.Rulebook.{Book, book, accepted, refused}
+use Rattle.book.specs.Rulebook.{Book, book, accepted, refused, table_of}
 use Rattle.book.specs.declared.Header.{Header}
 use Rattle.encoding.specs.Build.{Build, built, states#, variables#, clauses#}
 use Rattle.encoding.specs.Limits.{max_states, max_variables, max_clauses, oversized, word_buffer}
@@ -25,10 +25,26 @@ use Rattle.meaning.specs.Answers.{Answer, refusal, answer, answered, answer_to, 
 use Rattle.meaning.proofs.Results as results
 use Rattle.meaning.proofs.Judging.{answer-is}
 use Rattle.checker.specs.Checked.{max_work, Lent, enough, emptied, holding, Outcome, leaving, finished, on_book, checked, told}
+use Rattle.records.proofs.Tables.{leb_numbers_of}
+use Rattle.checker.specs.Lending.{held}
+use Rattle.checker.specs.declared.Lent as lending
 use Rattle.checker.specs.Meant.{found, Meant, Promised}
+use Rattle.std.specs.Prelude.{Result, Ok, Err}
+use Rattle.book.specs.Told.{told as read_told}
+use Rattle.book.proofs.Accepted.{accepted-told}
+use Rattle.book.specs.declared.refusal.Refusal.{Refusal}
+use Rattle.book.specs.declared.refusal.Refusal.TheVariants.{Short, Ranges, Extent, Node as NodeOut}
+use Rattle.book.specs.declared.refusal.NoAnswer.{NoAnswer}
+use Rattle.book.specs.declared.refusal.NoAnswer.TheVariants.{Lent as LentOut, Refused}
 use Rattle.checker.specs.declared.Answer as code
 
 -- ---- the sizes
+-- the sizes of the buffers as they are lent
+pub enough_held : (b : lending.Lent) → enough (held b)
+    ≡ (leb max_states (length b.states.now) && leb max_variables (length b.words.now) && leb (3 * max_clauses) (length b.clauses.now) && leb max_variables (length b.values.now) && leb max_work (length b.work.now))
+unfolding enough
+enough_held b = ap (λ t. t && leb max_variables (length b.words.now) && leb (3 * max_clauses) (length b.clauses.now) && leb max_variables (length b.values.now) && leb max_work (length b.work.now)) (leb_numbers_of max_states b.states.now)
+
 pub record Enough (o : Lent) : Type 0 where
   pub states : 3 * max_states ≤ length o.states
   pub words : max_variables ≤ length o.words
@@ -169,7 +185,7 @@ module _ (bs : List ℕ) (budget : ℕ) (o : Lent) (h : Header) (ns : List Node)
           go (no q) = absurd (omega (arith, e, number_is, (results.stopped_exactly bs h ns is fits budget).1 (omega arith)))
 
 -- ---- the promise
-module _ (bs : List ℕ) (budget : ℕ) (o o' : Lent) (r : code.Answer) (is : leaving (told r) o' ≡ checked bs budget o) where
+module _ (bs : List ℕ) (budget : ℕ) (o o' : Lent) (r : Result code.Answer NoAnswer) (is : leaving (told r) o' ≡ checked bs budget o) where
   pub promised : Promised bs budget o o' r
   promised =
       record {
@@ -192,6 +208,25 @@ module _ (bs : List ℕ) (budget : ℕ) (o o' : Lent) (r : code.Answer) (is : le
           go : (b : Bool) → enough o ≡ b → Meant ns h.root budget (told r) o'
           go true e = whole h ns q (oversized (built ns h.root)) refl (checked-accepted bs budget o h ns e q) low
           go false e = absurd (omega (arith, ap (λ (x : Outcome). x.answer.number) (is ∙ checked_short bs budget o e)))
+
+-- what `check` promises, case by case
+module _ (bs : List ℕ) (budget : ℕ) (o : Lent) where
+  pub promised_short : enough o ≡ false → Promised bs budget o o (Err LentOut)
+  promised_short e = promised bs budget o o (Err LentOut) (sym (checked_short bs budget o e))
+
+  pub promised_refused : (e : Refusal) (r : Result code.Answer NoAnswer) → enough o ≡ true → read_told bs (Err e) ≡ book bs → r ≡ Err (Refused e) → Promised bs budget o o r
+  unfolding read_told
+  promised_refused e r long q is = rw is (promised bs budget o o (Err (Refused e)) (sym (go e q)))
+    where
+      go : (e : Refusal) → read_told bs (Err e) ≡ book bs → checked bs budget o ≡ leaving (told (Err (Refused e))) o
+      go Short q = checked_refused bs budget o 11 0 long (sym q)
+      go Ranges q = checked_refused bs budget o 12 0 long (sym q)
+      go Extent q = checked_refused bs budget o 13 0 long (sym q)
+      go (NodeOut i) q = checked_refused bs budget o 14 i long (sym q)
+
+  pub promised_accepted : (h : Header) (o' : Lent) (r : Result code.Answer NoAnswer) → enough o ≡ true → read_told bs (Ok h) ≡ book bs
+      → leaving (told r) o' ≡ finished budget (built (table_of bs) h.root) o → Promised bs budget o o' r
+  promised_accepted h o' r long q is = promised bs budget o o' r (is ∙ sym (checked-accepted bs budget o h (table_of bs) long (accepted-told bs (Ok h) h q refl)))
 
 -- ---- with buffers that are long enough, the book alone decides: what holds of each case holds of the check
 module _ (bs : List ℕ) (budget : ℕ) (P : (Lent → Outcome) → Type 0)

@@ -4,41 +4,48 @@ use mathlib.Core.Path.{◌≡◌, refl, sym, ap, ◌∙◌}
 use mathlib.Core.Bool.{cond}
 use mathlib.Core.List.{List}
 use lib.Dec.{eqb}
-use Rattle.encoding.specs.declared.counts.Build.{Build}
 use Rattle.meaning.specs.Answers.{Answer}
-use Rattle.checker.specs.Checked.{Lent, told}
+use Rattle.checker.specs.Checked.{Lent, ended_by, told}
 use Rattle.checker.specs.Meant.{Promised}
+use Rattle.std.specs.Prelude.{Result, Ok, Err}
+use Rattle.book.specs.declared.refusal.Refusal.TheVariants.{Short, Ranges, Extent, Node}
+use Rattle.book.specs.declared.refusal.NoAnswer.{NoAnswer}
+use Rattle.book.specs.declared.refusal.NoAnswer.TheVariants.{Lent as LentOut, Refused, Oversized}
+use Rattle.branching.specs.declared.Outcome.{Outcome}
+use Rattle.branching.specs.declared.Outcome.TheVariants.{Yes, No, Stopped}
 use Rattle.checker.specs.declared.Answer as code
-use Rattle.checker.specs.declared.Answer.TheVariants.{Yes, No, Stopped, Lent as LentOut, Short, Ranges, Extent, Node, Oversized}
 
-totals : Answer → Build
-totals a = record { states = a.states; variables = a.variables; clauses = a.clauses }
+searched : Answer → Outcome → code.Answer
+searched a x = record { totals = record { states = a.states; variables = a.variables; clauses = a.clauses }; outcome = x }
 
-untold : Answer → code.Answer
+untold : Answer → Result code.Answer NoAnswer
 untold a =
-    cond (eqb a.number 1) (Yes (totals a) a.count)
-    (cond (eqb a.number 2) (No (totals a) a.count)
-    (cond (eqb a.number 3) (Stopped (totals a) a.count)
-    (cond (eqb a.number 10) LentOut
-    (cond (eqb a.number 11) Short
-    (cond (eqb a.number 12) Ranges
-    (cond (eqb a.number 13) Extent
-    (cond (eqb a.number 14) (Node a.place) Oversized)))))))
+    cond (eqb a.number 1) (Ok (searched a (Yes a.count)))
+    (cond (eqb a.number 2) (Ok (searched a (No a.count)))
+    (cond (eqb a.number 3) (Ok (searched a (Stopped a.count)))
+    (cond (eqb a.number 10) (Err LentOut)
+    (cond (eqb a.number 11) (Err (Refused Short))
+    (cond (eqb a.number 12) (Err (Refused Ranges))
+    (cond (eqb a.number 13) (Err (Refused Extent))
+    (cond (eqb a.number 14) (Err (Refused (Node a.place))) (Err Oversized))))))))
 
-untold-told : (r : code.Answer) → untold (told r) ≡ r
-unfolding untold totals
-untold-told (Yes b n) = refl
-untold-told (No b n) = refl
-untold-told (Stopped b n) = refl
-untold-told LentOut = refl
-untold-told Short = refl
-untold-told Ranges = refl
-untold-told Extent = refl
-untold-told (Node i) = refl
-untold-told Oversized = refl
+untold-told : (r : Result code.Answer NoAnswer) → untold (told r) ≡ r
+unfolding untold searched
+untold-told (Ok a) = go a.outcome
+  where
+    go : (x : Outcome) → untold (ended_by a.totals x) ≡ Ok (record { totals = a.totals; outcome = x })
+    go (Yes n) = refl
+    go (No n) = refl
+    go (Stopped n) = refl
+untold-told (Err LentOut) = refl
+untold-told (Err (Refused Short)) = refl
+untold-told (Err (Refused Ranges)) = refl
+untold-told (Err (Refused Extent)) = refl
+untold-told (Err (Refused (Node i))) = refl
+untold-told (Err Oversized) = refl
 
-pub told_inj : (r s : code.Answer) → told r ≡ told s → r ≡ s
+pub told_inj : (r s : Result code.Answer NoAnswer) → told r ≡ told s → r ≡ s
 told_inj r s e = sym (untold-told r) ∙ ap untold e ∙ untold-told s
 
-pub single : {bs : List ℕ} {budget : ℕ} {o o₁ o₂ : Lent} {r₁ r₂ : code.Answer} → Promised bs budget o o₁ r₁ → Promised bs budget o o₂ r₂ → (r₁ ≡ r₂) × (o₁ ≡ o₂)
+pub single : {bs : List ℕ} {budget : ℕ} {o o₁ o₂ : Lent} {r₁ r₂ : Result code.Answer NoAnswer} → Promised bs budget o o₁ r₁ → Promised bs budget o o₂ r₂ → (r₁ ≡ r₂) × (o₁ ≡ o₂)
 single {r₁} {r₂} p q = (told_inj r₁ r₂ (p.answer ∙ sym q.answer), p.lent ∙ sym q.lent)

@@ -9,8 +9,13 @@ use Rattle.encoding.specs.declared.counts.Build as counts
 use Rattle.search.specs.Search.{left}
 use Rattle.propagation.specs.Ready.{space_for}
 use Rattle.meaning.specs.Answers.{Answer, refusal, searched, judged}
+use Rattle.std.specs.Prelude.{Result, Ok, Err}
+use Rattle.book.specs.declared.refusal.Refusal.TheVariants.{Short, Ranges, Extent, Node}
+use Rattle.book.specs.declared.refusal.NoAnswer.{NoAnswer}
+use Rattle.book.specs.declared.refusal.NoAnswer.TheVariants.{Lent as LentOut, Refused, Oversized}
+use Rattle.branching.specs.declared.Outcome as search
+use Rattle.branching.specs.declared.Outcome.TheVariants.{Yes, No, Stopped}
 use Rattle.checker.specs.declared.Answer as code
-use Rattle.checker.specs.declared.Answer.TheVariants.{Yes, No, Stopped, Lent as LentOut, Short, Ranges, Extent, Node, Oversized}
 
 -- "Working space that the search needs besides is the team's choice; if lent, its size is stated and at most 4 MiB, and it is zero afterwards, but
 -- untouched by 10 to 14": the search's for the most variables and clauses of a build
@@ -84,13 +89,16 @@ checked bs budget o = cond (enough o) (on_book budget o (book bs)) (leaving (ref
 abbrev pub ended : ℕ → counts.Build → ℕ → Answer
 ended n b count = record { number = n; place = 0; states = b.states; variables = b.variables; clauses = b.clauses; count = count }
 
-abbrev pub told : code.Answer → Answer
-told (Yes b n) = ended 1 b n
-told (No b n) = ended 2 b n
-told (Stopped b n) = ended 3 b n
-told LentOut = refusal 10 0
-told Short = refusal 11 0
-told Ranges = refusal 12 0
-told Extent = refusal 13 0
-told (Node i) = refusal 14 i
-told Oversized = refusal 15 0
+abbrev pub ended_by : counts.Build → search.Outcome → Answer
+ended_by b (Yes n) = ended 1 b n
+ended_by b (No n) = ended 2 b n
+ended_by b (Stopped n) = ended 3 b n
+
+abbrev pub told : Result code.Answer NoAnswer → Answer
+told (Ok a) = ended_by a.totals a.outcome
+told (Err LentOut) = refusal 10 0
+told (Err (Refused Short)) = refusal 11 0
+told (Err (Refused Ranges)) = refusal 12 0
+told (Err (Refused Extent)) = refusal 13 0
+told (Err (Refused (Node i))) = refusal 14 i
+told (Err Oversized) = refusal 15 0

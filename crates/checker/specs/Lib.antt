@@ -1,3 +1,4 @@
 pub mod Checked
+pub mod Lending
 pub mod Meant
 pub mod Steps

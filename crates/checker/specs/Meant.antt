@@ -9,6 +9,8 @@ use Rattle.book.specs.declared.Header.{Header}
 use Rattle.structure.specs.Evaluation.{lies}
 use Rattle.meaning.specs.Answers.{Answer, C}
 use Rattle.checker.specs.Checked.{Lent, checked, told}
+use Rattle.std.specs.Prelude.{Result}
+use Rattle.book.specs.declared.refusal.NoAnswer.{NoAnswer}
 use Rattle.checker.specs.declared.Answer as code
 
 -- the structure that lies in the buffers after the answer a
@@ -30,7 +32,7 @@ pub record Meant (ns : List Node) (root budget : ℕ) (a : Answer) (o : Lent) : 
   pub few : C ns root + 1 ≤ 2 ^ a.variables
 
 -- of a book's bytes, a budget and the buffers o that were lent: the answer r and the buffers o' that are left
-pub record Promised (bs : List ℕ) (budget : ℕ) (o o' : Lent) (r : code.Answer) : Type 0 where
+pub record Promised (bs : List ℕ) (budget : ℕ) (o o' : Lent) (r : Result code.Answer NoAnswer) : Type 0 where
   pub answer : told r ≡ (checked bs budget o).answer
   pub lent : o' ≡ (checked bs budget o).lent
   pub means : (h : Header) (ns : List Node) → book bs ≡ accepted h ns → (told r).number ≤ 3 → Meant ns h.root budget (told r) o'

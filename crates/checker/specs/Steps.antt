@@ -1,21 +1,13 @@
--- What the functions of the check promise one another: an accepted book judged, and a build searched. Assumes nothing.
+-- What the functions of the check promise one another: a build searched. Assumes nothing.
 use Rattle.std.specs.Prelude.{ℕ, ◌*◌, ◌≤◌, ◌<◌, ◌≡◌, cond, List, ◌++◌, ℤ, length, take, drop, replicate}
-use Rattle.book.specs.Rulebook.{table_of}
-use Rattle.book.specs.Told.{Sound}
-use Rattle.book.specs.declared.Header.{Header}
 use Rattle.encoding.specs.declared.counts.Build.{Build}
 use Rattle.clauses.specs.Clause.{triples}
 use Rattle.search.specs.Search.{Run, run, nodes, finishes, left}
 use Rattle.propagation.specs.Ready.{Ready, space_for}
 use Rattle.meaning.specs.Answers.{Answer, verdict}
 use Rattle.checker.specs.Checked.{ended, told}
+use Rattle.std.specs.Prelude.{Ok}
 use Rattle.checker.specs.declared.Answer as code
-
--- a header that was accepted with these bytes
-pub record Fit (bs : List ℕ) (h : Header) : Type 0 where
-  pub sound : Sound bs h.offset
-  pub nodes : h.nodes ≡ length (table_of bs)
-  pub root : h.root < length (table_of bs)
 
 -- the clauses of a build with totals b, where they lie
 abbrev pub run_of : Build → List ℤ → Run
@@ -31,7 +23,7 @@ space b = space_for b.variables b.clauses
 
 -- the first places of values and working space are the search's
 pub record Decided (b : Build) (budget : ℕ) (cs : List ℤ) (vs wk vs' wk' : List ℕ) (r : code.Answer) : Type 0 where
-  pub answer : told r ≡ decided budget b (run_of b cs)
+  pub answer : told (Ok r) ≡ decided budget b (run_of b cs)
   pub values : vs' ≡ left budget b.variables (run_of b cs) ++ drop b.variables vs
   pub work : wk' ≡ replicate (space b) 0 ++ drop (space b) wk
 

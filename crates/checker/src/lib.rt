@@ -3,119 +3,170 @@
 
 mod numbers;
 
-ghost use Rattle.std.specs.Prelude.{◌≡◌, true};
-ghost use Rattle.book.specs.Rulebook.{table_of};
+ghost use Rattle.std.specs.Prelude.{◌≡◌, ◌<◌, true};
+ghost use Rattle.book.specs.Held.{nodes_in};
 ghost use Rattle.encoding.specs.Build.{built};
 ghost use Rattle.checker.specs.Checked as def;
-ghost use Rattle.checker.specs.Checked.{lent, leaving, finished, told};
+ghost use Rattle.checker.specs.Checked.{leaving, finished, told};
+ghost use Rattle.checker.specs.Lending.{held, owned, own, SameLoans};
 ghost use Rattle.checker.specs.Meant.{Promised};
-ghost use Rattle.checker.specs.Steps.{Fit, Searchable, Decided};
+ghost use Rattle.checker.specs.Steps.{Searchable, Decided};
 
-use book::{Header, Reading};
+use book::{Book, NoAnswer};
 use branching::Outcome;
-use build::Built;
 use encoding::Build;
-use ground::both;
 pub use numbers::{count, number, place, totals};
+use records::State;
+use structure::Structure;
 
 // The numbers of working space that a check is lent: the search's for as many variables and clauses as a build may have.
 pub const WORK: usize = 2 * Build::VARIABLES + 1 + 3 * Build::CLAUSES;
 
-#[derive(Clone, Copy)]
-pub enum Answer {
-    Yes(Build, u32),
-    No(Build, u32),
-    Stopped(Build, u32),
-    Lent,
-    Short,
-    Ranges,
-    Extent,
-    Node(usize),
-    Oversized,
+// The buffers that a check is lent: state records, variable words, clause numbers, values and working space.
+#[derive(Drop)]
+pub struct Lent<'a> {
+    pub states: &'a mut [State],
+    pub words: &'a mut [u32],
+    pub clauses: &'a mut [i16],
+    pub values: &'a mut [u8],
+    pub work: &'a mut [u16],
+}
+
+impl<'a> Lent<'a> {
+    // The structure that lies in the buffers of a build with these totals.
+    pub fn structure(&self, totals: Build) -> Structure<'_>
+        ensures records { (result.states.now ≡ self.now.states.now) × (result.states_count ≡ totals.states) }
+        ensures variables { (result.words.now ≡ self.now.words.now) × (result.variables_count ≡ totals.variables) × (result.values.now ≡ self.now.values.now) }
+    {
+        Structure {
+            states: &*self.states,
+            states_count: totals.states,
+            words: &*self.words,
+            variables_count: totals.variables,
+            values: &*self.values,
+        }
+    }
+}
+
+// The buffers of a check, of their sizes, for a caller that is lent none. Making and lending are always inlined, so that the arrays lie on the stack once.
+#[derive(Drop)]
+pub struct Buffers {
+    states: [State; Build::STATES],
+    words: [u32; Build::VARIABLES],
+    clauses: [i16; 3 * Build::CLAUSES],
+    values: [u8; Build::VARIABLES],
+    work: [u16; WORK],
+}
+
+impl Buffers {
+    // All 0.
+    #[inline(always)]
+    pub fn new() -> Buffers
+        ensures { owned result ≡ own }
+    {
+        let unused = State {
+            parent: 0,
+            relation: 0,
+            maker: 0,
+        };
+        Buffers {
+            states: [unused; Build::STATES],
+            words: [0; Build::VARIABLES],
+            clauses: [0; 3 * Build::CLAUSES],
+            values: [0; Build::VARIABLES],
+            work: [0; WORK],
+        }
+    }
+
+    // The buffers, to be lent to a check. Each array is borrowed by itself, as the borrow checker takes no slice of a field behind a reference.
+    #[inline(always)]
+    pub fn lend(&mut self) -> Lent<'_>
+        ensures { held result ≡ owned self.old }
+    {
+        let states = &mut self.states;
+        let words = &mut self.words;
+        let clauses = &mut self.clauses;
+        let values = &mut self.values;
+        let work = &mut self.work;
+        Lent {
+            states: &mut states[..],
+            words: &mut words[..],
+            clauses: &mut clauses[..],
+            values: &mut values[..],
+            work: &mut work[..],
+        }
+    }
+}
+
+// The answer to a book whose build is within the limits: the totals of the build, and what came of its search.
+#[derive(Clone, Copy, PartialEq, Eq, Debug)]
+pub struct Answer {
+    pub totals: Build,
+    pub outcome: Outcome,
 }
 
 // The answer to the book in these bytes within a budget of search nodes.
-pub fn check(
-    book: &[u8],
-    budget: u32,
-    states: &mut [u16],
-    words: &mut [u32],
-    clauses: &mut [i16],
-    values: &mut [u8],
-    work: &mut [u16],
-) -> Answer
-    ensures { Promised book.now budget (lent states.old words.old clauses.old values.old work.old) (lent states.new words.new clauses.new values.new work.new) result }
+#[tactic(auto, using(crate::proofs::Promising::promised_short, crate::proofs::Promising::promised_refused, crate::proofs::Promising::promised_accepted))]
+pub fn check(bytes: &[u8], budget: u32, buffers: &mut Lent) -> Result<Answer, NoAnswer>
+    ensures promised { Promised bytes.now budget (held buffers.old) (held buffers.new) result }
+    ensures same { SameLoans buffers.old buffers.new }
 {
-    if !enough(states, words, clauses, values, work) {
-        return Answer::Lent;
+    if !enough(buffers) {
+        return Err(NoAnswer::Lent);
     }
-    match book::read(book) {
-        Reading::Accepted(h) => judge(book, h, budget, states, words, clauses, values, work),
-        Reading::Short => Answer::Short,
-        Reading::Ranges => Answer::Ranges,
-        Reading::Extent => Answer::Extent,
-        Reading::Node(i) => Answer::Node(i),
-    }
+    let header = book::read(bytes)?;
+    judge(&Book::accepted(bytes, header), header.root, budget, buffers)
 }
 
 // Whether every lent buffer is at least as long as its size.
-fn enough(states: &[u16], words: &[u32], clauses: &[i16], values: &[u8], work: &[u16]) -> bool
-    ensures { result ≡ def.enough (lent states.now words.now clauses.now values.now work.now) }
+#[tactic(auto, using(crate::proofs::Promising::enough_held))]
+fn enough(buffers: &Lent) -> bool
+    ensures { result ≡ def.enough (held buffers.now) }
 {
-    let build = both(
-        both(
-            3 * Build::STATES <= states.len(),
-            Build::VARIABLES <= words.len(),
-        ),
-        3 * Build::CLAUSES <= clauses.len(),
-    );
-    both(
-        both(build, Build::VARIABLES <= values.len()),
-        WORK <= work.len(),
-    )
+    Build::STATES <= buffers.states.len()
+        && Build::VARIABLES <= buffers.words.len()
+        && 3 * Build::CLAUSES <= buffers.clauses.len()
+        && Build::VARIABLES <= buffers.values.len()
+        && WORK <= buffers.work.len()
 }
 
 // The build of an accepted book, and its search.
-fn judge(
-    book: &[u8],
-    h: Header,
-    budget: u32,
-    states: &mut [u16],
-    words: &mut [u32],
-    clauses: &mut [i16],
-    values: &mut [u8],
-    work: &mut [u16],
-) -> Answer
-    requires fit { Fit book.now h }
-    requires enough { def.enough (lent states.old words.old clauses.old values.old work.old) ≡ true }
-    ensures { leaving (told result) (lent states.new words.new clauses.new values.new work.new) ≡ finished budget (built (table_of book.now) h.root) (lent states.old words.old clauses.old values.old work.old) }
+fn judge(book: &Book, root: usize, budget: u32, buffers: &mut Lent) -> Result<Answer, NoAnswer>
+    requires root { root < book.now.nodes }
+    requires enough { def.enough (held buffers.old) ≡ true }
+    ensures judged { leaving (told result) (held buffers.new) ≡ finished budget (built (nodes_in book.now) root) (held buffers.old) }
+    ensures same { SameLoans buffers.old buffers.new }
 {
-    ground::clear_u8(values, Build::VARIABLES);
-    ground::clear_u16(work, WORK);
-    match build::fill(book, h.offset, h.nodes, h.root, states, words, clauses) {
-        Built::Over => Answer::Oversized,
-        Built::Whole(b) => decide(b, budget, clauses, values, work),
-    }
+    let clauses = &mut *buffers.clauses;
+    let values = &mut *buffers.values;
+    let work = &mut *buffers.work;
+    ground::clear(values, 0, Build::VARIABLES);
+    ground::clear(work, 0, WORK);
+    let totals = build::fill(book, root, buffers.states, buffers.words, clauses)?;
+    Ok(search(totals, budget, clauses, values, work))
 }
 
 // The search of a build within the limits.
-fn decide(b: Build, budget: u32, clauses: &[i16], values: &mut [u8], work: &mut [u16]) -> Answer
-    requires { Searchable b clauses.now values.old work.old }
-    ensures { Decided b budget clauses.now values.old work.old values.new work.new result }
+fn search(
+    totals: Build,
+    budget: u32,
+    clauses: &[i16],
+    values: &mut [u8],
+    work: &mut [u16],
+) -> Answer
+    requires { Searchable totals clauses.now values.old work.old }
+    ensures { Decided totals budget clauses.now values.old work.old values.new work.new result }
 {
-    let many = b.clauses;
-    let variables = b.variables;
+    let many = totals.clauses;
+    let variables = totals.variables;
     let end = 3 * many;
     let space = 2 * variables + 1 + end;
-    match branching::search(
+    let outcome = branching::search(
         &clauses[..end],
         many,
         &mut values[..variables],
         &mut work[..space],
         budget,
-    ) {
-        Outcome::Yes(n) => Answer::Yes(b, n),
-        Outcome::No(n) => Answer::No(b, n),
-        Outcome::Stopped(n) => Answer::Stopped(b, n),
-    }
+    );
+    Answer { totals, outcome }
 }

@@ -3,79 +3,49 @@ ghost use Rattle.std.specs.Prelude.{◌≡◌};
 ghost use Rattle.checker.specs.Checked.{told};
 
 use super::Answer;
+use book::NoAnswer;
+use branching::Outcome;
 use encoding::Build;
 
-pub fn number(a: Answer) -> u32
-    ensures { result ≡ (told a).number }
+pub fn number(answer: Result<Answer, NoAnswer>) -> u32
+    ensures { result ≡ (told answer).number }
 {
-    match a {
-        Answer::Yes(_, _) => 1,
-        Answer::No(_, _) => 2,
-        Answer::Stopped(_, _) => 3,
-        Answer::Lent => 10,
-        Answer::Short => 11,
-        Answer::Ranges => 12,
-        Answer::Extent => 13,
-        Answer::Node(_) => 14,
-        Answer::Oversized => 15,
+    match answer {
+        Ok(a) => u32::from(a.outcome),
+        Err(e) => u32::from(e),
     }
 }
 
-pub fn place(a: Answer) -> usize
-    ensures { result ≡ (told a).place }
+pub fn place(answer: Result<Answer, NoAnswer>) -> usize
+    ensures { result ≡ (told answer).place }
 {
-    match a {
-        Answer::Node(i) => i,
-        Answer::Yes(_, _) => 0,
-        Answer::No(_, _) => 0,
-        Answer::Stopped(_, _) => 0,
-        Answer::Lent => 0,
-        Answer::Short => 0,
-        Answer::Ranges => 0,
-        Answer::Extent => 0,
-        Answer::Oversized => 0,
+    match answer {
+        Ok(_) => 0,
+        Err(e) => e.place(),
     }
 }
 
 // "A refusal has totals and count 0."
-fn none() -> Build
-    ensures { result ≡ record { states = 0; variables = 0; clauses = 0 } }
+pub fn totals(answer: Result<Answer, NoAnswer>) -> Build
+    ensures { (result.states ≡ (told answer).states) × (result.variables ≡ (told answer).variables) × (result.clauses ≡ (told answer).clauses) }
 {
-    Build {
-        states: 0,
-        variables: 0,
-        clauses: 0,
+    match answer {
+        Ok(a) => a.totals,
+        Err(_) => Build {
+            states: 0,
+            variables: 0,
+            clauses: 0,
+        },
     }
 }
 
-pub fn totals(a: Answer) -> Build
-    ensures { (result.states ≡ (told a).states) × (result.variables ≡ (told a).variables) × (result.clauses ≡ (told a).clauses) }
+pub fn count(answer: Result<Answer, NoAnswer>) -> u32
+    ensures { result ≡ (told answer).count }
 {
-    match a {
-        Answer::Yes(b, _) => b,
-        Answer::No(b, _) => b,
-        Answer::Stopped(b, _) => b,
-        Answer::Lent => none(),
-        Answer::Short => none(),
-        Answer::Ranges => none(),
-        Answer::Extent => none(),
-        Answer::Node(_) => none(),
-        Answer::Oversized => none(),
-    }
-}
-
-pub fn count(a: Answer) -> u32
-    ensures { result ≡ (told a).count }
-{
-    match a {
-        Answer::Yes(_, n) => n,
-        Answer::No(_, n) => n,
-        Answer::Stopped(_, n) => n,
-        Answer::Lent => 0,
-        Answer::Short => 0,
-        Answer::Ranges => 0,
-        Answer::Extent => 0,
-        Answer::Node(_) => 0,
-        Answer::Oversized => 0,
+    match answer {
+        Ok(a) => match a.outcome {
+            Outcome::Yes(n) | Outcome::No(n) | Outcome::Stopped(n) => n,
+        },
+        Err(_) => 0,
     }
 }

@@ -1,6 +1,6 @@
 -- Rows of the working space that show a structure and a book's nodes on it: a node's row is made from those of its children by `check`, the step of
 -- evaluation, so that the rows below i and the row of i show the nodes below i + 1. Assumes nothing.
-use Prim.Native.Nat.{ℕ, zero, suc, ◌+◌, ◌*◌, ◌≤◌, ◌<◌}
+use Prim.Native.Nat.{ℕ, suc, ◌+◌, ◌*◌, ◌≤◌, ◌<◌}
 use native.Mathlib.Omega.{arith}
 use native.Mathlib.Decide.{ℕ_discrete}
 use native.Mathlib.Nat.{add-zero}
@@ -8,39 +8,36 @@ use mathlib.Core.Path.{◌≡◌, refl, sym, ap, ap₂, ◌∙◌}
 use mathlib.Core.Bool.{Bool, true, false, not, ◌&&◌, ◌||◌, cond}
 use mathlib.Core.List.{List}
 use lib.Dec.{T, eqb}
-use lib.ListN.{get_or, length}
+use lib.ListN.{get_or, length, take}
 use mir.Facts.{and_yes, yes_and, eqb_yes, yes_eqb}
-use Rattle.logic.specs.Table.{Node, atom, neg, and, or, imp, box, dia, children, node, Below, at-step}
+use Rattle.logic.specs.Table as table
+use Rattle.logic.specs.Table.{children, node, Below, at-step}
 use Rattle.logic.specs.Finite.{Finite, some_below, successor, check, evaluate}
 use Rattle.signed.specs.Signed.{bit}
-use Rattle.book.specs.Rulebook.{number16, table_of}
-use Rattle.book.specs.Told.{Ruled, Sound}
+use Rattle.book.specs.Held.{nodes_of}
+use Rattle.book.specs.Shapes.{shape_of, Bounded}
+use Rattle.book.specs.declared.node.Node.{Node}
+use Rattle.book.specs.declared.node.Node.TheVariants.{Atom, Not, And, Or, Implies, Box, Diamond}
+use Rattle.book.specs.declared.sound.Table.{Table}
 use Rattle.book.proofs.Accepted.{sound-below}
 use Rattle.encoding.specs.Build.{Record}
 use Rattle.encoding.specs.Limits.{max_states}
+use Rattle.records.specs.declared.State.{State}
+use Rattle.records.specs.Table.{row_at}
+use Rattle.records.proofs.Tables.{length-numbers_of}
 use Rattle.structure.specs.Structure.{edge, read_back}
-use Rattle.structure.specs.Evaluation.{records_in, max_atoms}
+use Rattle.structure.specs.Evaluation.{records_in, max_atoms, max_nodes}
+use Rattle.structure.specs.Held.{numbers, lies_in}
 use Rattle.structure.specs.Marks.{on}
 use Rattle.structure.specs.Rows.{Elsewhere, Written, Scattered, reached, atom_row, put_in}
+use Rattle.structure.specs.declared.Structure.{Structure}
 use Rattle.structure.proofs.Living.{no_zero}
 use Rattle.structure.proofs.Marking.{on_bit}
 use Rattle.structure.proofs.Recorded.{record_at_lem, length-records}
 use Rattle.structure.proofs.Written.{elsewhere_both}
-use Rattle.structure.proofs.Scatter.{same_tests, some_ext, some_shift, reached-yes, yes-reached, scatter_more, scatter_away}
-use Rattle.evaluation.specs.Nodes.{first_row, second_row, node_row, joined, turned, counts, parent_reaches, Row, Shown, Room, Evaluating}
-
--- the code's last arm
-pub joined-rest : (k : ℕ) (a b : Bool) → (1 ≤ k → k < 7 → ⊥) → joined k a b ≡ false
-unfolding joined
-joined-rest zero a b h = refl
-joined-rest (suc zero) a b h = absurd (h (omega arith) (omega arith))
-joined-rest (suc (suc zero)) a b h = absurd (h (omega arith) (omega arith))
-joined-rest (suc (suc (suc zero))) a b h = absurd (h (omega arith) (omega arith))
-joined-rest (suc (suc (suc (suc zero)))) a b h = absurd (h (omega arith) (omega arith))
-joined-rest (suc (suc (suc (suc (suc zero))))) a b h = absurd (h (omega arith) (omega arith))
-joined-rest (suc (suc (suc (suc (suc (suc zero)))))) a b h = absurd (h (omega arith) (omega arith))
-joined-rest (suc (suc (suc (suc (suc (suc (suc zero))))))) a b h = refl
-joined-rest (suc (suc (suc (suc (suc (suc (suc (suc k)))))))) a b h = refl
+use Rattle.structure.proofs.Scatter.{same_tests, some_ext, some_shift, reached-yes, yes-reached, scatter_none, scatter_more, scatter_away}
+use Rattle.evaluation.specs.declared.rows.Modal.{Modal}
+use Rattle.evaluation.specs.Nodes.{first_row, second_row, node_row, joined, turned, counts, parent_reaches, reaches, Row, Shown, Room, Evaluating}
 
 -- ---- a box or a diamond
 module _ (st w : List ℕ) (r child : ℕ) (diamond : Bool) (base n : ℕ) where
@@ -70,19 +67,39 @@ module _ (st w : List ℕ) (r child : ℕ) (diamond : Bool) (base n : ℕ) where
       scatter_more (bit diamond) (parent_reaches st w r child diamond base n) w j new base n mark p l
       (λ i. rw (e, q, o j (omega arith), o (child + j) (omega arith))) s
 
--- ---- a node's row
--- the rows that it is made from lie before it
-pub rows_before : (i k a b r : ℕ) (x : Node) → Ruled i k a b r x → (first_row k a + max_states ≤ node_row i) × (second_row k a b + max_states ≤ node_row i)
-unfolding Ruled first_row second_row
-rows_before i k a b r (atom y) u = rw u.0 (omega (arith, u.1, u.2), omega (arith, u.1, u.2))
-rows_before i k a b r (neg c) u = rw u.0 (omega (arith, u.1, u.2), omega (arith, u.1, u.2))
-rows_before i k a b r (and c d) u = rw u.0 (omega (arith, u.1, u.3), omega (arith, u.2, u.4))
-rows_before i k a b r (or c d) u = rw u.0 (omega (arith, u.1, u.3), omega (arith, u.2, u.4))
-rows_before i k a b r (imp c d) u = rw u.0 (omega (arith, u.1, u.3), omega (arith, u.2, u.4))
-rows_before i k a b r (box q c) u = rw u.0 (omega (arith, u.1, u.3), omega (arith, u.1, u.3))
-rows_before i k a b r (dia q c) u = rw u.0 (omega (arith, u.1, u.3), omega (arith, u.1, u.3))
+-- of a structure: the code's loop
+module _ (s : Structure) (w : List ℕ) (m : Modal) (base : ℕ) where
+  pub spread_none : Scattered (bit m.diamond) (reaches s w m base) 0 w w
+  spread_none = scatter_none (bit m.diamond) (reaches s w m base) w
 
-module _ (F : Finite) (ns : List Node) (i n : ℕ) (few : n ≤ max_states) where
+  pub spread_next : s.states_count ≤ base → m.child + s.states_count ≤ base → base + s.states_count ≤ length w → (j : ℕ) → j < s.states_count → (old new : List ℕ) (mark : Bool) (x : ℕ) (d : State)
+      → mark ≡ counts (numbers s) old m.relation m.child m.diamond j → d ≡ row_at (numbers s) j → x ≡ bit m.diamond → new ≡ put_in base s.states_count mark d.parent x old
+      → Scattered (bit m.diamond) (reaches s w m base) j w old → Scattered (bit m.diamond) (reaches s w m base) (j + 1) w new
+  spread_next a b l j h old new mark x d e q y z t =
+      rw (z, y) (spread_turn (numbers s) w m.relation m.child m.diamond base s.states_count a b l j h old mark d.parent e (ap (λ (z : State). z.parent) q) t)
+
+-- ---- a node's row
+-- a node's numbers are below a book's most nodes
+pub bounded_within : (i : ℕ) (x : Node) → Bounded i x → i < max_nodes → Bounded max_nodes x
+bounded_within i (Atom a) b h = b
+bounded_within i (Not c) b h = omega arith
+bounded_within i (And c d) b h = (omega (arith, b), omega (arith, b))
+bounded_within i (Or c d) b h = (omega (arith, b), omega (arith, b))
+bounded_within i (Implies c d) b h = (omega (arith, b), omega (arith, b))
+bounded_within i (Box r c) b h = (b.0, omega (arith, b))
+bounded_within i (Diamond r c) b h = (b.0, omega (arith, b))
+
+-- the rows that it is made from lie before it
+pub rows_before : (i : ℕ) (x : Node) → Bounded i x → (first_row x + max_states ≤ node_row i) × (second_row x + max_states ≤ node_row i)
+rows_before i (Atom a) b = (omega arith, omega arith)
+rows_before i (Not c) b = (omega arith, omega arith)
+rows_before i (And c d) b = (omega (arith, b), omega (arith, b))
+rows_before i (Or c d) b = (omega (arith, b), omega (arith, b))
+rows_before i (Implies c d) b = (omega (arith, b), omega (arith, b))
+rows_before i (Box r c) b = (omega (arith, b), omega (arith, b))
+rows_before i (Diamond r c) b = (omega (arith, b), omega (arith, b))
+
+module _ (F : Finite) (ns : List table.Node) (i n : ℕ) (few : n ≤ max_states) where
   -- what is written from the row of node i on leaves the rows before it
   pub shown-kept : (high : ℕ) (old new : List ℕ) → Elsewhere (node_row i) high old new → Shown F ns i n old → Shown F ns i n new
   shown-kept high old new e s =
@@ -99,7 +116,7 @@ module _ (F : Finite) (ns : List Node) (i n : ℕ) (few : n ≤ max_states) wher
       go c q (yes e) = rw e row
       go c q (no e) = s.nodes c (omega arith)
 
-module _ (F : Finite) (ns : List Node) (i n : ℕ) (w : List ℕ) (shown : Shown F ns i n w) where
+module _ (F : Finite) (ns : List table.Node) (i n : ℕ) (w : List ℕ) (shown : Shown F ns i n w) where
   mark-lives : (j : ℕ) → j < n → on w j ≡ F.state (suc j)
   mark-lives j h = on_bit w j (F.state (suc j)) (shown.lives j h)
 
@@ -110,16 +127,16 @@ module _ (F : Finite) (ns : List Node) (i n : ℕ) (w : List ℕ) (shown : Shown
   mark-node c j q h = on_bit w (node_row c + j) (evaluate F ns c (suc j)) (shown.nodes c q j h)
 
   -- an atom's copy, "not", "and", "or", "implies": state by state
-  pub joined_checks : (k a b r : ℕ) (x : Node) → Ruled i k a b r x → k < 6 → (j : ℕ) → j < n
-      → joined k (on w (first_row k a + j)) (on w (second_row k a b + j)) ≡ check F i (children (evaluate F ns) x) (suc j)
-  unfolding Ruled first_row second_row joined check children
-  joined_checks k a b r (atom y) u l j h = rw (u.0, u.1) (mark-atom y j u.2 h)
-  joined_checks k a b r (neg c) u l j h = rw (u.0, u.1) (ap not (mark-node c j u.2 h))
-  joined_checks k a b r (and c d) u l j h = rw (u.0, u.1, u.2) (ap₂ ◌&&◌ (mark-node c j u.3 h) (mark-node d j u.4 h))
-  joined_checks k a b r (or c d) u l j h = rw (u.0, u.1, u.2) (ap₂ ◌||◌ (mark-node c j u.3 h) (mark-node d j u.4 h))
-  joined_checks k a b r (imp c d) u l j h = rw (u.0, u.1, u.2) (ap₂ (λ x y. not x || y) (mark-node c j u.3 h) (mark-node d j u.4 h))
-  joined_checks k a b r (box q c) u l j h = absurd (omega (arith, u.0))
-  joined_checks k a b r (dia q c) u l j h = absurd (omega (arith, u.0))
+  pub joined_checks : (x : Node) → Bounded i x → ((r c : ℕ) → x ≡ Box r c → ⊥) → ((r c : ℕ) → x ≡ Diamond r c → ⊥) → (j : ℕ) → j < n
+      → joined x (on w (first_row x + j)) (on w (second_row x + j)) ≡ check F i (children (evaluate F ns) (shape_of x)) (suc j)
+  unfolding check children
+  joined_checks (Atom a) b p q j h = mark-atom a j b h
+  joined_checks (Not c) b p q j h = ap not (mark-node c j b h)
+  joined_checks (And c d) b p q j h = ap₂ ◌&&◌ (mark-node c j b.0 h) (mark-node d j b.1 h)
+  joined_checks (Or c d) b p q j h = ap₂ ◌||◌ (mark-node c j b.0 h) (mark-node d j b.1 h)
+  joined_checks (Implies c d) b p q j h = ap₂ (λ x y. not x || y) (mark-node c j b.0 h) (mark-node d j b.1 h)
+  joined_checks (Box r c) b p q j h = absurd (p r c refl)
+  joined_checks (Diamond r c) b p q j h = absurd (q r c refl)
 
 -- a parent that is reached: the state that reaches it is its successor
 parent-reached : (base n : ℕ) (alive same counted : Bool) (p q : ℕ) → q < n → reached base n (alive && same && counted) p (base + q) ≡ (alive && (alive && eqb p (suc q) && same) && counted)
@@ -154,7 +171,7 @@ turned_bit true false = refl
 turned_bit false true = refl
 turned_bit false false = refl
 
-module _ (st ws vs : List ℕ) (ns : List Node) (i n : ℕ) (w : List ℕ) (whole : 3 * n ≤ length st) (shown : Shown (read_back (records_in n st) ws vs) ns i n w) where
+module _ (st ws vs : List ℕ) (ns : List table.Node) (i n : ℕ) (w : List ℕ) (whole : 3 * n ≤ length st) (shown : Shown (read_back (records_in n st) ws vs) ns i n w) where
   abbrev G : Finite
   G = read_back (records_in n st) ws vs
 
@@ -170,65 +187,71 @@ module _ (st ws vs : List ℕ) (ns : List Node) (i n : ℕ) (w : List ℕ) (whol
       ∙ ap (λ (m : ℕ). some_below (suc m) (λ t. G.state t && G.R r (suc q) t && turned d (evaluate G ns c t))) (sym (length-records n st whole))
 
   -- a box and a diamond: by the successors, over what the row began with
-  pub modal_checks : (k a b r : ℕ) (x : Node) → Ruled i k a b r x → 6 ≤ k → (u v : Bool) (j : ℕ) → j < n
-      → cond (some_below n (parent_reaches st w r (first_row k a) (eqb k 7) (node_row i) n (node_row i + j))) (bit (eqb k 7)) (bit (joined k u v)) ≡ bit (check G i (children (evaluate G ns) x) (suc j))
-  unfolding Ruled first_row joined check children turned
-  modal_checks k a b r (atom y) e l u v j h = absurd (omega (arith, e.0))
-  modal_checks k a b r (neg c) e l u v j h = absurd (omega (arith, e.0))
-  modal_checks k a b r (and c d) e l u v j h = absurd (omega (arith, e.0))
-  modal_checks k a b r (or c d) e l u v j h = absurd (omega (arith, e.0))
-  modal_checks k a b r (imp c d) e l u v j h = absurd (omega (arith, e.0))
-  modal_checks k a b r (box q c) e l u v j h = rw (e.0, e.1, e.2) (ap (λ b. cond b (bit false) (bit true)) (successors (node_row i) q c false e.3 j h) ∙ turned_bit false (successor G q (suc j) (λ t. not (evaluate G ns c t))))
-  modal_checks k a b r (dia q c) e l u v j h = rw (e.0, e.1, e.2) (ap (λ b. cond b (bit true) (bit false)) (successors (node_row i) q c true e.3 j h) ∙ turned_bit true (successor G q (suc j) (λ t. evaluate G ns c t)))
+  pub box_checks : (r c : ℕ) → c < i → (j : ℕ) → j < n
+      → cond (some_below n (parent_reaches st w r (node_row c) false (node_row i) n (node_row i + j))) (bit false) (bit true) ≡ bit (check G i (children (evaluate G ns) (table.box r c)) (suc j))
+  unfolding check children turned
+  box_checks r c low j h = ap (λ b. cond b (bit false) (bit true)) (successors (node_row i) r c false low j h) ∙ turned_bit false (successor G r (suc j) (λ t. not (evaluate G ns c t)))
+
+  pub diamond_checks : (r c : ℕ) → c < i → (j : ℕ) → j < n
+      → cond (some_below n (parent_reaches st w r (node_row c) true (node_row i) n (node_row i + j))) (bit true) (bit false) ≡ bit (check G i (children (evaluate G ns) (table.dia r c)) (suc j))
+  unfolding check children turned
+  diamond_checks r c low j h = ap (λ b. cond b (bit true) (bit false)) (successors (node_row i) r c true low j h) ∙ turned_bit true (successor G r (suc j) (λ t. evaluate G ns c t))
 
 -- the step of evaluation, in a table whose children are below their nodes
-checked : (F : Finite) (ns : List Node) → Below ns → (i s : ℕ) → check F i (children (evaluate F ns) (node ns i)) s ≡ evaluate F ns i s
+checked : (F : Finite) (ns : List table.Node) → Below ns → (i s : ℕ) → check F i (children (evaluate F ns) (node ns i)) s ≡ evaluate F ns i s
 unfolding evaluate
 checked F ns below i s = sym (ap (λ (f : ℕ → Bool). f s) (at-step (check F) ns below i))
 
 -- ---- one node more
-module _ (bs st : List ℕ) (offset n i : ℕ) (old : List ℕ) (room : Room bs offset st n old) (inside : i < length (table_of bs)) (k a b r : ℕ) (rule : Ruled i k a b r (node (table_of bs) i)) (mid : List ℕ)
-    (wrote : Written (node_row i) n (λ j. bit (joined k (on old (first_row k a + j)) (on old (second_row k a b + j)))) old mid) where
-  abbrev ns : List Node
-  ns = table_of bs
+module _ (t : Table) (s : Structure) (i : ℕ) (old : List ℕ) (room : Room s old) (inside : i < length (nodes_of t)) (x : Node) (here : shape_of x ≡ node (nodes_of t) i) (bounds : Bounded i x) where
+  abbrev n : ℕ
+  n = s.states_count
 
-  one_more : (new : List ℕ) → Elsewhere (node_row i) (node_row i + n) old new
-      → ((ws vs : List ℕ) → Shown (read_back (records_in n st) ws vs) ns i n old → Row new (node_row i) n (evaluate (read_back (records_in n st) ws vs) ns i))
-      → Evaluating bs st n i (i + 1) old new
+  abbrev ns : List table.Node
+  ns = nodes_of t
+
+  abbrev F : Finite
+  F = lies_in s
+
+  whole : 3 * n ≤ length (numbers s)
+  whole = omega (arith, length-numbers_of s.states.now, room.records)
+
+  step : (j : ℕ) → check F i (children (evaluate F ns) (shape_of x)) (suc j) ≡ evaluate F ns i (suc j)
+  step j = ap (λ (m : table.Node). check F i (children (evaluate F ns) m) (suc j)) here ∙ checked F ns (sound-below t.bytes.now t.offset t.sound) i (suc j)
+
+  one_more : (new : List ℕ) → Elsewhere (node_row i) (node_row i + n) old new → (Shown F ns i n old → Row new (node_row i) n (evaluate F ns i)) → Evaluating ns s i (i + 1) old new
   one_more new e row =
       record {
         long = e.long;
-        kept = λ p h. e.after p (omega (arith, room.few, room.sound.few));
-        shows = λ ws vs s.
-            shown-more (read_back (records_in n st) ws vs) ns i n room.few new
-            (shown-kept (read_back (records_in n st) ws vs) ns i n room.few (node_row i + n) old new e s)
-            (row ws vs s);
+        kept = λ p h. e.after p (omega (arith, room.few, t.sound.few));
+        shows = λ y. shown-more F ns i n room.few new (shown-kept F ns i n room.few (node_row i + n) old new e y) (row y);
       }
 
-  pub joined-node : k < 6 → Evaluating bs st n i (i + 1) old mid
-  joined-node l =
-      one_more mid wrote.rest
-      (λ ws vs s j h.
-      wrote.at j h
-      ∙ ap bit (joined_checks (read_back (records_in n st) ws vs) ns i n old s k a b r (node ns i) rule l j h
-      ∙ checked (read_back (records_in n st) ws vs) ns (sound-below bs offset room.sound) i (suc j)))
+  pub joined_node : (new : List ℕ) → Written (node_row i) n (λ j. bit (joined x (on old (first_row x + j)) (on old (second_row x + j)))) old new
+      → ((r c : ℕ) → x ≡ Box r c → ⊥) → ((r c : ℕ) → x ≡ Diamond r c → ⊥) → Evaluating ns s i (i + 1) old new
+  joined_node new wrote p q = one_more new wrote.rest (λ y j h. wrote.at j h ∙ ap bit (joined_checks F ns i n old y x bounds p q j h ∙ step j))
 
-  pub modal_node : 6 ≤ k → (new : List ℕ) → Scattered (bit (eqb k 7)) (parent_reaches st mid r (first_row k a) (eqb k 7) (node_row i) n) n mid new → Evaluating bs st n i (i + 1) old new
-  modal_node l new spread =
-      one_more new (elsewhere_both (node_row i) (node_row i + n) old mid new wrote.rest (spread_elsewhere st mid r (first_row k a) (eqb k 7) (node_row i) n n new spread))
-      (λ ws vs s j h.
-      let F = read_back (records_in n st) ws vs in
-      let t = shown-kept F ns i n room.few (node_row i + n) old mid wrote.rest s in
-      spread.at (node_row i + j)
-      ∙ ap (λ (y : ℕ). cond (some_below n (parent_reaches st mid r (first_row k a) (eqb k 7) (node_row i) n (node_row i + j))) (bit (eqb k 7)) y) (wrote.at j h)
-      ∙ modal_checks st ws vs ns i n mid room.records t k a b r (node ns i) rule l (on old (first_row k a + j)) (on old (second_row k a b + j)) j h
-      ∙ ap bit (checked F ns (sound-below bs offset room.sound) i (suc j)))
+  -- what the row of a box or a diamond began with, and the marks of the states that were reached
+  module _ (r c : ℕ) (mid new : List ℕ) where
+    spread_more : (d : Bool) → Written (node_row i) n (λ j. bit (not d)) old mid
+        → Scattered (bit d) (parent_reaches (numbers s) mid r (node_row c) d (node_row i) n) n mid new
+        → (Shown F ns i n mid → (j : ℕ) → j < n
+        → cond (some_below n (parent_reaches (numbers s) mid r (node_row c) d (node_row i) n (node_row i + j))) (bit d) (bit (not d)) ≡ bit (check F i (children (evaluate F ns) (shape_of x)) (suc j)))
+        → Evaluating ns s i (i + 1) old new
+    spread_more d begun spread checks =
+        one_more new (elsewhere_both (node_row i) (node_row i + n) old mid new begun.rest (spread_elsewhere (numbers s) mid r (node_row c) d (node_row i) n n new spread))
+        (λ y j h.
+        spread.at (node_row i + j)
+        ∙ ap (λ (z : ℕ). cond (some_below n (parent_reaches (numbers s) mid r (node_row c) d (node_row i) n (node_row i + j))) (bit d) z) (begun.at j h)
+        ∙ checks (shown-kept F ns i n room.few (node_row i + n) old mid begun.rest y) j h
+        ∙ ap bit (step j))
 
--- the numbers that were read of node i's record keep its rule
-pub rule-read : (bs : List ℕ) (offset : ℕ) → Sound bs offset → (i : ℕ) → i < length (table_of bs) → (k a b r : ℕ) → k ≡ number16 bs (offset + 8 * i) → a ≡ number16 bs (offset + 8 * i + 2)
-    → b ≡ number16 bs (offset + 8 * i + 4) → r ≡ number16 bs (offset + 8 * i + 6) → Ruled i k a b r (node (table_of bs) i)
-rule-read bs offset sound i h k a b r p q s t = rw (p, q, s, t) (sound.rule i h)
+    pub box_node : x ≡ Box r c → Written (node_row i) n (λ j. bit true) old mid → Scattered (bit false) (parent_reaches (numbers s) mid r (node_row c) false (node_row i) n) n mid new → Evaluating ns s i (i + 1) old new
+    box_node e begun spread = spread_more false begun spread (λ y j h. rw e (box_checks (numbers s) (take s.variables_count s.words.now) (take s.variables_count s.values.now) ns i n mid whole y r c (rw e at bounds).1 j h))
+
+    pub diamond_node : x ≡ Diamond r c → Written (node_row i) n (λ j. bit false) old mid → Scattered (bit true) (parent_reaches (numbers s) mid r (node_row c) true (node_row i) n) n mid new → Evaluating ns s i (i + 1) old new
+    diamond_node e begun spread = spread_more true begun spread (λ y j h. rw e (diamond_checks (numbers s) (take s.variables_count s.words.now) (take s.variables_count s.values.now) ns i n mid whole y r c (rw e at bounds).1 j h))
 
 -- the root's mark at state 1
-pub root-shown : (F : Finite) (ns : List Node) (k n root : ℕ) (w : List ℕ) → Shown F ns k n w → root < k → 1 ≤ n → on w (node_row root) ≡ evaluate F ns root 1
+pub root-shown : (F : Finite) (ns : List table.Node) (k n root : ℕ) (w : List ℕ) → Shown F ns k n w → root < k → 1 ≤ n → on w (node_row root) ≡ evaluate F ns root 1
 root-shown F ns k n root w s h q = ap (on w) (sym (add-zero (node_row root))) ∙ mark-node F ns k n w s root 0 h q

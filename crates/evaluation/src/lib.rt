@@ -4,14 +4,15 @@
 mod nodes;
 mod rows;
 
-ghost use Rattle.std.specs.Prelude.{◌≡◌, ◌&&◌, leb};
-ghost use Rattle.structure.specs.Evaluation.{states_fit, variables_fit, work_size, Evaluated};
+ghost use Rattle.std.specs.Prelude.{◌≡◌};
+ghost use Rattle.structure.specs.Evaluation.{Evaluated};
+ghost use Rattle.structure.specs.Held.{numbers};
+ghost use Rattle.evaluation.specs.Nodes.{fits};
 
-use book::{Reading, read};
+use book::{Book, NoAnswer, read};
 use encoding::Build;
-use ground::both;
 use nodes::root_holds;
-use structure::{ATOMS, Evaluation, states_fit, values_fit, words_fit};
+use structure::{ATOMS, Structure};
 
 // The rulebook's most nodes.
 pub const NODES: usize = 512;
@@ -21,44 +22,21 @@ pub const WORK: usize = (1 + ATOMS + NODES) * Build::STATES;
 
 // Evaluates the book at state 1 of the structure. However nodes are shared, it makes at most two passes over the n states for each node, one over the
 // records and one over the words, and clears the working space.
-pub fn evaluate(
-    book: &[u8],
-    states: &[u16],
-    n: usize,
-    words: &[u32],
-    v: usize,
-    values: &[u8],
-    work: &mut [u8],
-) -> Evaluation
-    ensures { Evaluated book.now states.now n words.now v values.now work.old work.new result }
+#[tactic(auto, using(crate::proofs::Answering::room))]
+pub fn evaluate(book: &[u8], structure: &Structure, work: &mut [u8]) -> Result<bool, NoAnswer>
+    ensures { Evaluated book.now (numbers structure.now) structure.now.states_count structure.now.words.now structure.now.variables_count structure.now.values.now work.old work.new result }
 {
-    if !all_fit(states, n, words, v, values, work.len()) {
-        return Evaluation::Lent;
+    if !all_fit(structure, work.len()) {
+        return Err(NoAnswer::Lent);
     }
-    match read(book) {
-        Reading::Accepted(h) => {
-            if root_holds(book, h, states, n, words, v, values, work) {
-                Evaluation::True
-            } else {
-                Evaluation::False
-            }
-        }
-        Reading::Short => Evaluation::Short,
-        Reading::Ranges => Evaluation::Ranges,
-        Reading::Extent => Evaluation::Extent,
-        Reading::Node(i) => Evaluation::Node(i),
-    }
+    let header = read(book)?;
+    let accepted = Book::accepted(book, header);
+    Ok(root_holds(&accepted, header.root, structure, work))
 }
 
 // Whether the lent buffers, the working space among them, have their sizes, and the totals are those of a build.
-fn all_fit(states: &[u16], n: usize, words: &[u32], v: usize, values: &[u8], space: usize) -> bool
-    ensures { result ≡ (states_fit n states.now && variables_fit v words.now && variables_fit v values.now && leb work_size space) }
+fn all_fit(structure: &Structure, space: usize) -> bool
+    ensures { result ≡ fits structure.now space }
 {
-    both(
-        both(
-            both(states_fit(states, n), words_fit(words, v)),
-            values_fit(values, v),
-        ),
-        WORK <= space,
-    )
+    structure.states_fit() && structure.words_fit() && structure.values_fit() && WORK <= space
 }

@@ -1,76 +1,81 @@
 // A book's nodes in index order, each a row of the working space over the states: a node is evaluated once, however often it is shared.
-ghost use Rattle.std.specs.Prelude.{◌≡◌, ◌+◌, ◌*◌, ◌≤◌, ◌<◌, length};
+ghost use Rattle.std.specs.Prelude.{◌≡◌, ◌+◌, ◌<◌, length};
 ghost use Rattle.ground.specs.Buffer.{cleared};
 ghost use Rattle.logic.specs.Finite as logic;
-ghost use Rattle.book.specs.Rulebook.{table_of};
-ghost use Rattle.encoding.specs.Limits.{max_states};
-ghost use Rattle.structure.specs.Evaluation.{lies, work_size};
-ghost use Rattle.evaluation.specs.Nodes.{Room, Evaluating, Prepared, Asked};
+ghost use Rattle.book.specs.Held.{nodes_of, nodes_in};
+ghost use Rattle.structure.specs.Evaluation.{work_size};
+ghost use Rattle.structure.specs.Held.{lies_in};
+ghost use Rattle.evaluation.specs.Nodes.{Room, Evaluating, Prepared};
 
 use crate::WORK;
-use crate::rows::{connect, first_row, node_row, second_row, spread};
-use book::{Header, first, kind, relation, second};
+use crate::rows::{Modal, begin, connect, node_row, spread};
+use book::{Book, Node, Table};
 use encoding::Build;
-use ground::clear_u8;
-use structure::{ATOMS, marked, write_lives, write_table};
+use ground::clear;
+use structure::{ATOMS, Structure, marked};
 
 // Writes the row of node i, those below it written. At most two passes over the n states.
-fn write_node(book: &[u8], offset: usize, states: &[u16], n: usize, work: &mut [u8], i: usize)
-    requires { Room book.now offset states.now n work.old × (i < length (table_of book.now)) }
-    ensures { Evaluating book.now states.now n i (i + 1) work.old work.new }
+fn write_node(table: &Table, structure: &Structure, work: &mut [u8], i: usize)
+    requires room { Room structure.now work.old }
+    requires inside { i < length (nodes_of table.now) }
+    ensures { Evaluating (nodes_of table.now) structure.now i (i + 1) work.old work.new }
 {
-    let k = kind(book, offset, i);
-    let a = first(book, offset, i);
-    let b = second(book, offset, i);
-    let r = relation(book, offset, i);
+    let n = structure.states_count;
     let base = node_row(i);
-    let child = first_row(k, a);
-    let other = second_row(k, a, b);
-    connect(work, k, child, other, base, n);
-    if 6 <= k {
-        spread(states, n, work, r, child, base, k == 7);
+    let node = table.node(i);
+    match node {
+        Node::Box(relation, child) => {
+            let modal = Modal {
+                diamond: false,
+                relation,
+                child: node_row(child),
+            };
+            begin(work, base, n, true);
+            spread(structure, work, modal, base);
+        }
+        Node::Diamond(relation, child) => {
+            let modal = Modal {
+                diamond: true,
+                relation,
+                child: node_row(child),
+            };
+            begin(work, base, n, false);
+            spread(structure, work, modal, base);
+        }
+        _ => connect(work, node, i, n),
     }
 }
 
 // Writes the rows of all nodes. A node costs at most two passes over the states, so all cost at most 2 × nodes × states.
-fn write_nodes(book: &[u8], offset: usize, nodes: usize, states: &[u16], n: usize, work: &mut [u8])
-    requires { Room book.now offset states.now n work.old × (nodes ≡ length (table_of book.now)) }
-    ensures { Evaluating book.now states.now n 0 nodes work.old work.new }
+fn write_nodes(book: &Book, structure: &Structure, work: &mut [u8])
+    requires room { Room structure.now work.old }
+    ensures { Evaluating (nodes_in book.now) structure.now 0 book.now.nodes work.old work.new }
 {
-    let mut i: usize = 0;
-    while i < nodes {
-        write_node(book, offset, states, n, work, i);
-        i += 1;
+    for i in 0..book.nodes {
+        write_node(&book.table, structure, work, i);
     }
 }
 
 // Writes the rows of the lives and of the atoms: clears them, then one pass over the records and one over the words.
-fn prepare(states: &[u16], n: usize, words: &[u32], v: usize, values: &[u8], work: &mut [u8])
-    requires { (3 * n ≤ length states.now) × (n ≤ max_states) × (v ≤ length words.now) × (work_size ≤ length work.old) }
-    ensures { Prepared (lies n v states.now words.now values.now) n work.old work.new }
+#[tactic(auto, using(crate::proofs::Preparing::prepared))]
+fn prepare(structure: &Structure, work: &mut [u8])
+    requires room { Room structure.now work.old }
+    ensures { Prepared structure.now work.old work.new }
 {
-    clear_u8(work, (1 + ATOMS) * Build::STATES);
-    write_lives(states, n, values, v, work);
-    write_table(words, v, values, n, work);
+    clear(work, 0, (1 + ATOMS) * Build::STATES);
+    structure.write_lives(work);
+    structure.write_table(work);
 }
 
 // Whether the root of an accepted book is true at state 1. The working space is cleared at the end, one pass over it.
-pub fn root_holds(
-    book: &[u8],
-    h: Header,
-    states: &[u16],
-    n: usize,
-    words: &[u32],
-    v: usize,
-    values: &[u8],
-    work: &mut [u8],
-) -> bool
-    requires { Asked book.now h states.now n words.now v work.old }
-    ensures { (result ≡ logic.evaluate (lies n v states.now words.now values.now) (table_of book.now) h.root 1) × (work.new ≡ cleared 0 work_size work.old) }
+pub fn root_holds(book: &Book, root: usize, structure: &Structure, work: &mut [u8]) -> bool
+    requires room { Room structure.now work.old }
+    requires root { root < book.now.nodes }
+    ensures { (result ≡ logic.evaluate (lies_in structure.now) (nodes_in book.now) root 1) × (work.new ≡ cleared 0 work_size work.old) }
 {
-    prepare(states, n, words, v, values, work);
-    write_nodes(book, h.offset, h.nodes, states, n, work);
-    let holds = marked(work, node_row(h.root));
-    clear_u8(work, WORK);
+    prepare(structure, work);
+    write_nodes(book, structure, work);
+    let holds = marked(work, node_row(root));
+    clear(work, 0, WORK);
     holds
 }

@@ -2,17 +2,19 @@
 -- Assumes nothing.
 use Prim.Native.Nat.{ℕ}
 use native.Mathlib.Omega.{arith}
-use mathlib.Core.Path.{◌≡◌, refl}
-use mathlib.Core.Bool.{Bool, true, false, cond}
+use mathlib.Core.Path.{◌≡◌, refl, sym, subst}
+use mathlib.Core.Bool.{Bool, true, false}
 use mathlib.Core.List.{List}
-use lib.Dec.{leb}
 use Rattle.book.proofs.Verdicts.{refused-low}
 use Rattle.encoding.specs.Build.{built}
-use Rattle.encoding.specs.Limits.{max_states}
-use Rattle.meaning.specs.Answers.{refusal, judged}
-use Rattle.checker.specs.Checked.{Lent, enough, leaving, checked}
+use Rattle.meaning.specs.Answers.{judged}
+use Rattle.checker.specs.Checked.{Lent, enough, checked, told}
 use Rattle.checker.proofs.Promising.{within, checked_short, checked-book, by-book}
-use Rattle.host.specs.Steps.{Small, tabled}
+use Rattle.std.specs.Prelude.{Result}
+use Rattle.book.specs.declared.refusal.NoAnswer.{NoAnswer}
+use Rattle.checker.specs.Meant.{Promised}
+use Rattle.checker.specs.declared.Answer as code
+use Rattle.host.specs.Steps.{Small}
 
 module _ (bs : List ℕ) (budget : ℕ) (o : Lent) where
   checked-small : Small (checked bs budget o).answer
@@ -28,10 +30,6 @@ module _ (bs : List ℕ) (budget : ℕ) (o : Lent) where
           (λ h ns q x. record { place = omega arith; states = omega arith; variables = omega arith; clauses = omega arith })
           (λ h ns q x. let w = within (built ns h.root) x in record { place = omega arith; states = omega arith; variables = omega arith; clauses = omega arith }))
 
-  pub tabled-small : (room : ℕ) → Small (tabled bs budget room o).answer
-  unfolding tabled
-  tabled-small room = go (leb max_states room)
-    where
-      go : (b : Bool) → Small (cond b (checked bs budget o) (leaving (refusal 10 0) o)).answer
-      go true = checked-small
-      go false = record { place = omega arith; states = omega arith; variables = omega arith; clauses = omega arith }
+-- what an answer of the check holds
+pub told_small : (bs : List ℕ) (budget : ℕ) (o o' : Lent) (a : Result code.Answer NoAnswer) → Promised bs budget o o' a → Small (told a)
+told_small bs budget o o' a p = subst Small (sym p.answer) (checked-small bs budget o)

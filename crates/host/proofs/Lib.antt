@@ -1,5 +1,5 @@
-pub mod Tabled
+pub mod Entering
 pub mod Fields
-pub mod Gathered
+pub mod Taken
 pub mod Numbered
 pub mod Single

@@ -1,57 +1,26 @@
-// The evaluation with the state records as numbers.
-ghost use Rattle.std.specs.Prelude.{◌≡◌, ◌*◌, ◌≤◌, min, length, take};
+// What an evaluation reads of a table of states, and its answer by number.
+ghost use Rattle.std.specs.Prelude.{◌≡◌, min};
 ghost use Rattle.encoding.specs.Limits.{max_states};
 ghost use Rattle.structure.specs.Evaluation.{told};
-ghost use Rattle.host.specs.Called.{Judged};
 
+use book::NoAnswer;
 use encoding::Build;
-use ground::lower;
-use structure::Evaluation;
 
-// How many records of a table are read: as many as its size says, or all that it has.
+// How many records of a table are read: as many as its size says, or all that it has. What lies beyond the size is not even lent on.
 pub fn readable(room: usize) -> usize
     ensures { result ≡ min max_states room }
 {
-    lower(Build::STATES, room)
+    room.min(Build::STATES)
 }
 
-// The evaluation over the first m records of the numbers.
-pub fn evaluate_numbers(
-    book: &[u8],
-    numbers: &[u16],
-    m: usize,
-    states_count: usize,
-    words: &[u32],
-    variables_count: usize,
-    values: &[u8],
-    work: &mut [u8],
-) -> u32
-    requires { 3 * m ≤ length numbers.now }
-    ensures { Judged book.now (take (3 * m) numbers.now) states_count words.now variables_count values.now work.old work.new result }
-{
-    number(evaluation::evaluate(
-        book,
-        &numbers[..3 * m],
-        states_count,
-        words,
-        variables_count,
-        values,
-        work,
-    ))
-}
-
-// Document 01's number for each case.
+// Document 01's number for each answer.
 #[tactic(auto, unfolding(structure::specs::Evaluation::told))]
-fn number(e: Evaluation) -> u32
-    ensures { result ≡ (told e).number }
+pub fn number(answer: Result<bool, NoAnswer>) -> u32
+    ensures { result ≡ (told answer).number }
 {
-    match e {
-        Evaluation::True => 1,
-        Evaluation::False => 2,
-        Evaluation::Lent => 10,
-        Evaluation::Short => 11,
-        Evaluation::Ranges => 12,
-        Evaluation::Extent => 13,
-        Evaluation::Node(_) => 14,
+    match answer {
+        Ok(true) => 1,
+        Ok(false) => 2,
+        Err(e) => u32::from(e),
     }
 }

@@ -9,3 +9,4 @@ mod Literals
 mod Judged
 mod Latest
 mod Moves
+pub mod States

@@ -4,9 +4,9 @@ use mathlib.Core.Path.{◌≡◌, refl, sym, ap, ◌∙◌}
 use mathlib.Core.Bool.{Bool, true, false}
 use Prim.Native.Nat.{zero, suc, ◌+◌, ◌-◌, ◌^◌, ◌<◌}
 use native.Mathlib.Omega.{arith}
-use borrow.Author.Tests.{le-ltb, ltb-true, ltb-false, eqb-true, eqb-false}
+use borrow.Author.Tests.{le-ltb, ltb-true, eqb-true, eqb-false}
 use lib.Dec.{eqb}
-use lib.IntN.{ℤ, pos, negsuc, nat_abs, ◌+ℤ◌, ◌-ℤ◌}
+use lib.IntN.{ℤ, pos, negsuc, nat_abs, ◌+ℤ◌}
 use lib.Signed.{lt_z}
 use mir.Syntax.{w16}
 use mir.Val.{SFits, to_z, of_z}
@@ -24,20 +24,7 @@ not-zero l f h e = h (ap (of_z w16) (sym (to_z-of_z f) ∙ e))
 pub is_zero : (l : ℤ) → SFits w16 l → of_z w16 l ≡ 0 → l ≡ pos 0
 is_zero l f h = sym (to_z-of_z f) ∙ ap (to_z w16) h
 
--- ---- above 0
-pub up-place : (y : ℤ) → lt_z (pos 0) y ≡ true → nat_abs y - 1 ≡ place y
-unfolding place
-up-place (pos zero) e = true-false (sym e)
-up-place (pos (suc n)) e = omega arith
-up-place (negsuc n) e = true-false (sym e)
-
--- ---- below 0
-pub down : (y : ℤ) → lt_z (pos 0) y ≡ false → (y ≡ pos 0 → ⊥) → negsuc 0 -ℤ y ≡ pos (place y)
-unfolding place
-down (pos zero) e f = absurd (f refl)
-down (pos (suc n)) e f = absurd (omega (arith, ltb-false 0 (suc n) e))
-down (negsuc n) e f = rw (le-ltb (suc n) 1 (omega arith)) (ap pos (omega arith))
-
+-- ---- places
 pub place-small : (y : ℤ) → SFits w16 y → place y < 2 ^ 15
 unfolding place
 place-small (pos zero) f = omega arith
@@ -88,3 +75,10 @@ same_bits y z f g = by (eqb (of_z w16 y) (of_z w16 z)) refl
         let q : y ≡ z = sym (to_z-of_z f) ∙ ap (to_z w16) (eqb-true (of_z w16 y) (of_z w16 z) e) ∙ to_z-of_z g in
         sym (is_same y) ∙ ap (same_literal y) q
     by false e = sym (same-no y z (λ k. eqb-false (of_z w16 y) (of_z w16 z) e (ap (of_z w16) k)))
+
+-- a place counts from 0
+pub place_less : (l : ℤ) → nat_abs l - 1 ≡ place l
+unfolding place
+place_less (pos zero) = refl
+place_less (pos (suc n)) = omega arith
+place_less (negsuc n) = omega arith

@@ -1,5 +1,5 @@
 -- The table of truths: a variable's mark given or taken back keeps it in step with the marks, and where nothing is assigned it starts. Assumes nothing.
-use mathlib.Core.Path.{◌≡◌, sym, ap, ◌∙◌}
+use mathlib.Core.Path.{◌≡◌, refl, sym, ap, ◌∙◌}
 use Prim.Native.Nat.{ℕ, zero, suc, ◌+◌, ◌-◌, ◌≤◌, ◌<◌}
 use mathlib.Core.List.{List}
 use native.Mathlib.Decide.{ℕ_discrete}
@@ -10,6 +10,36 @@ use lib.IntN.{ℤ, pos, negsuc, nat_abs}
 use Rattle.search.specs.Search.{turned, value}
 use Rattle.propagation.specs.Judging.{slot_of, weight, Mirrors}
 use Rattle.search.proofs.Marks.{none-at}
+
+-- ---- marks, told apart
+pub turned_zero : (v : ℕ) → v ≡ 0 → 0 ≡ turned v
+unfolding turned
+turned_zero v e = sym (ap turned e)
+
+pub turned_two : (v : ℕ) → v ≡ 2 → 1 ≡ turned v
+unfolding turned
+turned_two v e = sym (ap turned e)
+
+pub turned_else : (v : ℕ) → (v ≡ 0 → ⊥) → (v ≡ 2 → ⊥) → 2 ≡ turned v
+unfolding turned
+turned_else zero f g = absurd (f refl)
+turned_else (suc zero) f g = refl
+turned_else (suc (suc zero)) f g = absurd (g refl)
+turned_else (suc (suc (suc n))) f g = refl
+
+pub weight_zero : (v : ℕ) → v ≡ 0 → 1 ≡ weight v
+unfolding weight
+weight_zero v e = sym (ap weight e)
+
+pub weight_one : (v : ℕ) → v ≡ 1 → 4 ≡ weight v
+unfolding weight
+weight_one v e = sym (ap weight e)
+
+pub weight_else : (v : ℕ) → (v ≡ 0 → ⊥) → (v ≡ 1 → ⊥) → 0 ≡ weight v
+unfolding weight
+weight_else zero f g = absurd (f refl)
+weight_else (suc zero) f g = absurd (g refl)
+weight_else (suc (suc v)) f g = refl
 
 pub weight_le : (v : ℕ) → weight v ≤ 4
 unfolding weight

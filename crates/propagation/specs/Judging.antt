@@ -4,6 +4,7 @@ use Rattle.std.specs.Prelude.{◌≡◌, Bool, cond, List, [], ◌∷◌, ℕ, z
 use Rattle.clauses.specs.Clause.{Clause, three}
 use Rattle.search.specs.Search.{value, met, says, Says, quiet, fails, forces}
 use Rattle.propagation.specs.Ready.{Ready}
+use Rattle.propagation.specs.declared.formula.Formula.{Formula}
 use Rattle.propagation.specs.declared.clause.Told.{Told}
 use Rattle.propagation.specs.declared.clause.Told.TheVariants.{Quiet, Fails, Forces}
 
@@ -30,13 +31,13 @@ pub record Shown (cl : List ℤ) (many : ℕ) (a w : List ℕ) : Type 0 where
   pub ready : Ready cl many (length a)
   pub mirrors : Mirrors a w
 
--- of some number of clauses
-abbrev pub Posed : List ℤ → List ℕ → List ℕ → Type 0
-Posed cl a w = (many : ℕ) × Shown cl many a w
-
 -- w is the table of some marks
 abbrev pub Table : List ℤ → ℕ → List ℕ → Type 0
 Table cl many w = (a : List ℕ) × Shown cl many a w
+
+-- w is the table of the marks a of a formula's variables
+abbrev pub Shows : Formula → List ℕ → List ℕ → Type 0
+Shows F w a = (length a ≡ F.variables) × Mirrors a w
 
 -- ---- a clause
 -- the i-th, counting from 0

@@ -4,3 +4,5 @@ pub mod Unmet
 pub mod Judging
 pub mod Trail
 pub mod Propagation
+pub mod Way
+pub mod Assigned

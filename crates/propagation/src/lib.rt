@@ -2,13 +2,20 @@
 // literals made true.
 #![tactic(auto)]
 
+mod assignment;
 mod clause;
-mod counting;
+mod formula;
+mod holders;
 mod links;
+mod marks;
 mod propagate;
 mod trail;
 
+pub use assignment::Assignment;
 pub use clause::number;
+pub use formula::Formula;
+pub use holders::Holders;
 pub use links::link;
-pub use propagate::{Settled, settle};
-pub use trail::{FIRST, Step, assign, back, entry};
+pub use marks::{Second, assign, back};
+pub use propagate::Conflict;
+pub use trail::{FIRST, entry, noted};

@@ -5,7 +5,7 @@ ghost use Rattle.propagation.specs.Links as def;
 ghost use Rattle.propagation.specs.Links.{Linkable, Linked};
 
 use crate::clause::{mark, place};
-use ground::clear_u16;
+use ground::clear;
 
 // Where the latest place stands of the literal that the mark m makes true, of the variable at i.
 pub fn head(i: usize, m: u8) -> usize
@@ -36,13 +36,11 @@ pub fn link(clauses: &[i16], variables: usize, links: &mut [u16])
     requires { Linkable clauses.now variables links.old }
     ensures { Linked clauses.now variables (length clauses.now) links.new }
 {
-    clear_u16(links, 2 * variables + 1);
-    let mut i: usize = 0;
-    while i < clauses.len() {
-        let x = head_of(clauses[i]);
+    clear(links, 0, 2 * variables + 1);
+    for (i, l) in clauses.iter().enumerate() {
+        let x = head_of(*l);
         let last = links[x];
         links[2 * variables + 1 + i] = last;
-        i += 1;
-        links[x] = joined(last, i as u16);
+        links[x] = joined(last, (i + 1) as u16);
     }
 }

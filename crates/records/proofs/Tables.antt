@@ -4,9 +4,12 @@ use Prim.Native.Nat.{ℕ, zero, suc, ◌+◌, ◌*◌, ◌≤◌, ◌<◌}
 use native.Mathlib.Omega.{arith}
 use native.Mathlib.Decide.{ℕ_discrete}
 use mathlib.Core.Path.{◌≡◌, refl, sym, ap, ◌∙◌}
+use mathlib.Core.Bool.{Bool, true, false}
 use mathlib.Core.List.{List, [], ◌∷◌, ◌++◌}
+use lib.Dec.{T, leb}
 use lib.ListN.{length, get_or, set, take, drop, replicate, length-set}
 use lib.Seq.{get_or-set_same, get_or-set_other, take-nil, drop-nil, take_at, take-append-le, length-take-le}
+use mir.Facts.{leb_yes, yes_leb}
 use Rattle.ground.specs.Buffer.{filled}
 use Rattle.ground.proofs.Buffers.{Laid, Kept, is-filled, kept_set, filled-laid, filled-kept, length-filled}
 use Rattle.records.specs.declared.State.{State}
@@ -60,6 +63,15 @@ pub length-numbers_of : (ss : List State) → length (numbers_of ss) ≡ 3 * len
 unfolding numbers_of
 length-numbers_of [] = refl
 length-numbers_of (s ∷ ss) = let e = length-numbers_of ss in omega arith
+
+pub leb_numbers_of : (n : ℕ) (ss : List State) → leb (3 * n) (length (numbers_of ss)) ≡ leb n (length ss)
+leb_numbers_of n ss = rw (length-numbers_of ss) (go (leb (3 * n) (3 * length ss)) (leb n (length ss)) (λ t. let h = leb_yes t in yes_leb {a = n} {b = length ss} (omega arith)) (λ t. let h = leb_yes t in yes_leb {a = 3 * n} {b = 3 * length ss} (omega arith)))
+  where
+    go : (a b : Bool) → (T a → T b) → (T b → T a) → a ≡ b
+    go true true p q = refl
+    go true false p q = absurd (p tt)
+    go false true p q = absurd (q tt)
+    go false false p q = refl
 
 pub length-rows : (xs : List ℕ) (n : ℕ) → 3 * n ≤ length xs → n ≤ length (rows xs)
 unfolding rows

@@ -1,5 +1,5 @@
 // Document 01, "a lent table of state records (512; parent, relation, making variable)": the table as a slice of records, and the way between it and the
-// same records as numbers, three to a record, which the build writes and the structure reads.
+// same records as numbers, three to a record, in which the definitions speak of it; the ways are for callers that have the numbers alone.
 #![tactic(auto)]
 
 ghost use Rattle.std.specs.Prelude.{◌≡◌, ◌+◌, ◌*◌, ◌≤◌, ◌<◌, length, get_or};
@@ -7,7 +7,7 @@ ghost use Rattle.ground.specs.Buffer.{filled};
 ghost use Rattle.records.specs.Table.{zero_state, row_at, row_put, rows, numbers_of};
 
 #[repr(C)]
-#[derive(Clone, Copy)]
+#[derive(Clone, Copy, PartialEq, Eq, Debug)]
 pub struct State {
     pub parent: u16,
     pub relation: u16,
@@ -52,11 +52,8 @@ pub fn publish(t: &mut [State], numbers: &[u16], n: usize)
     requires { (n ≤ length t.old) × (3 * n ≤ length numbers.now) }
     ensures { t.new ≡ filled zero_state n (rows numbers.now) t.old }
 {
-    let mut i: usize = 0;
-    while i < n {
-        let s = row_of(numbers, i);
-        t[i] = s;
-        i += 1;
+    for i in 0..n {
+        t[i] = row_of(numbers, i);
     }
 }
 
@@ -66,10 +63,7 @@ pub fn gather(t: &[State], numbers: &mut [u16], n: usize)
     requires { (n ≤ length t.now) × (3 * n ≤ length numbers.old) }
     ensures { numbers.new ≡ filled 0 (3 * n) (numbers_of t.now) numbers.old }
 {
-    let mut i: usize = 0;
-    while i < n {
-        let s = record_at(t, i);
-        put_row(numbers, i, s);
-        i += 1;
+    for i in 0..n {
+        put_row(numbers, i, record_at(t, i));
     }
 }

@@ -7,14 +7,21 @@ use Rattle.streams.specs.Writing.{Begins}
 use Rattle.meaning.specs.Answers.{Answer}
 use lib.Seq.{take_at}
 use native.Mathlib.Decide.{dec_lt}
-use Rattle.checker.specs.Checked.{Lent, told, checked}
+use Rattle.checker.specs.Checked.{Lent, leaving, told, checked}
 use Rattle.checker.specs.Meant.{Promised}
+use Rattle.std.specs.Prelude.{Result}
+use Rattle.book.specs.declared.refusal.NoAnswer.{NoAnswer}
 use Rattle.checker.specs.declared.Answer as code
-use Rattle.rulecheck.specs.Printed.{printed, printed_of, printed_for, own}
+use Rattle.records.specs.declared.State.{State}
+use Rattle.records.specs.Table.{numbers_of}
+use Rattle.structure.specs.declared.Structure.{Structure}
+use Rattle.checker.specs.Lending.{own}
+use Rattle.rulecheck.specs.Lines.{lines_of, structure_lines}
+use Rattle.rulecheck.specs.Printed.{printed, printed_after, printed_of, printed_for}
 
-pub told_printed : (bs : List ℕ) (o' : Lent) (a : code.Answer) → Promised bs 1000000 own o' a → printed_of bs ≡ printed (told a) o'.states o'.words o'.values
+pub told_printed : (bs : List ℕ) (o o' : Lent) (a : Result code.Answer NoAnswer) → o ≡ own → Promised bs 1000000 o o' a → printed_of bs ≡ printed_after (leaving (told a) o')
 unfolding printed_of
-told_printed bs o' a p = sym (λ i. printed (p.answer i) (p.lent i).states (p.lent i).words (p.lent i).values)
+told_printed bs o o' a e p = ap (λ (k : Lent). printed_after (checked bs 1000000 k)) (sym e) ∙ sym (λ i. printed_after (leaving (p.answer i) (p.lent i)))
 
 pub whole_read : (old new : Option (List ℕ)) (n : ℕ) (buf : List ℕ) (P : List ℕ → Type 0) → length buf ≡ 8193 → n ≤ length buf → Consumes old new (take n buf) → (n < length buf → IsAtEnd new) → P (take n buf)
     → IfSome old (λ xs. P (take 8193 xs))
@@ -51,3 +58,8 @@ some_of_book bs = let k = checked bs 1000000 own in some_printed k.answer k.lent
 pub none_printed : (a old : Option (List ℕ)) → IfSome old (λ xs. Begins a a (printed_for xs))
 none_printed a None = tt
 none_printed a (Some xs) = record { n = 0; short = some_of_book (take 8193 xs); written = Appends-nil a }
+
+-- the lines of a structure, by what lies there
+pub same_lines : (s : Structure) (n v : ℕ) (st : List State) (ws vs : List ℕ) → (s.states.now ≡ st) × (s.states_count ≡ n) → (s.words.now ≡ ws) × (s.variables_count ≡ v) × (s.values.now ≡ vs)
+    → lines_of s ≡ structure_lines n (numbers_of st) v ws vs
+same_lines s n v st ws vs p q = λ i. structure_lines (p.1 i) (numbers_of (p.0 i)) (q.1 i) (q.0 i) (q.2 i)

@@ -4,6 +4,8 @@ use Rattle.std.specs.List.{flat_map}
 use Rattle.std.specs.Fmt.{decimal}
 use Rattle.encoding.specs.Limits.{max_states}
 use Rattle.structure.specs.Evaluation.{max_atoms}
+use Rattle.structure.specs.Held.{numbers}
+use Rattle.structure.specs.declared.Structure.{Structure}
 use Rattle.structure.specs.Marks.{on, lives_fit, lives_marked, atoms_fit, atoms_marked, edge_of, record_of}
 
 -- a number after a space; a word with numbers after it; the end of a line
@@ -46,3 +48,10 @@ line_of n st v ws vs s = let e = edge_of (record_of n st s) in state_line s e.pa
 
 abbrev pub structure_lines : ℕ → List ℕ → ℕ → List ℕ → List ℕ → List ℕ
 structure_lines n st v ws vs = marked (lives_at n st v vs) (λ i. line_of n st v ws vs (i + 1)) max_states
+
+-- the same of a structure as one value
+abbrev pub line_at : Structure → ℕ → List ℕ
+line_at s i = line_of s.states_count (numbers s) s.variables_count s.words.now s.values.now i
+
+abbrev pub lines_of : Structure → List ℕ
+lines_of s = structure_lines s.states_count (numbers s) s.variables_count s.words.now s.values.now

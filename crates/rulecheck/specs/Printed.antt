@@ -1,8 +1,8 @@
 -- What the program prints of a book: document 01, "The program". Assumes nothing.
-use Rattle.std.specs.Prelude.{ℕ, ◌*◌, List, ◌++◌, cond, eqb, replicate, pos, take, codes}
-use Rattle.encoding.specs.Limits.{max_states, max_variables, max_clauses}
+use Rattle.std.specs.Prelude.{ℕ, List, ◌++◌, cond, eqb, take, codes}
 use Rattle.meaning.specs.Answers.{Answer}
-use Rattle.checker.specs.Checked.{max_work, Lent, lent, Outcome, checked}
+use Rattle.checker.specs.Checked.{Outcome, checked}
+use Rattle.checker.specs.Lending.{own}
 use Rattle.rulecheck.specs.Lines.{refusal_line, size_line, verdict_line, structure_lines}
 
 -- the lines of an answer, with the structure that lies in buffers after a yes
@@ -11,10 +11,6 @@ printed a st ws vs =
     let head = λ (word : List ℕ). size_line a.states a.variables a.clauses ++ verdict_line word a.count in
     cond (eqb a.number 1) (head (codes "yes") ++ structure_lines a.states st a.variables ws vs)
     (cond (eqb a.number 2) (head (codes "no")) (cond (eqb a.number 3) (head (codes "stopped")) (refusal_line a.number a.place)))
-
--- the program's own buffers
-abbrev pub own : Lent
-own = lent (replicate (3 * max_states) 0) (replicate max_variables 0) (replicate (3 * max_clauses) (pos 0)) (replicate max_variables 0) (replicate max_work 0)
 
 abbrev pub printed_after : Outcome → List ℕ
 printed_after k = printed k.answer k.lent.states k.lent.words k.lent.values

@@ -1,16 +1,18 @@
 // The program: a book on standard input, its answer on standard output, as document 01 prints it.
 #![tactic(auto)]
 
-ghost use Rattle.std.specs.Prelude.{◌≤◌, OnOk, OnErr, IfSome, List, length, ℕ};
+ghost use Rattle.std.specs.Prelude.{◌≤◌, Ok, OnOk, OnErr, IfSome, List, length, ℕ};
 ghost use Rattle.std.specs.Io.KnownBytes.{Appends, Consumes};
 ghost use Rattle.streams.specs.Writing.{Begins};
-ghost use Rattle.checker.specs.Checked.{told};
-ghost use Rattle.rulecheck.specs.Printed.{printed, printed_of, printed_for};
+ghost use Rattle.checker.specs.Checked.{leaving, told};
+ghost use Rattle.checker.specs.Lending.{held};
+ghost use Rattle.rulecheck.specs.Printed.{printed_after, printed_of, printed_for};
 
 mod show;
 
-use checker::Answer;
-use encoding::Build;
+use book::NoAnswer;
+use branching::Outcome;
+use checker::{Answer, Buffers, Lent};
 use std::io;
 use std::io::{Read, Write};
 use streams::read_full;
@@ -40,46 +42,37 @@ fn answer<W: Write>(out: &mut W, book: &[u8]) -> io::Result<()>
     ensures written { OnOk result (Appends (W.contents out.old) (W.contents out.new) (printed_of book.now)) }
     ensures error { OnErr result (Begins (W.contents out.old) (W.contents out.new) (printed_of book.now)) }
 {
-    let mut states = [0u16; 3 * Build::STATES];
-    let mut words = [0u32; Build::VARIABLES];
-    let mut clauses = [0i16; 3 * Build::CLAUSES];
-    let mut values = [0u8; Build::VARIABLES];
-    let mut work = [0u16; checker::WORK];
-    let a = checker::check(
-        book,
-        BUDGET,
-        &mut states,
-        &mut words,
-        &mut clauses,
-        &mut values,
-        &mut work,
-    );
-    lines(out, a, &states, &words, &values)
+    let mut own = Buffers::new();
+    let mut buffers = own.lend();
+    let answer = checker::check(book, BUDGET, &mut buffers);
+    lines(out, answer, &buffers)
 }
 
-#[tactic(auto, using(crate::proofs::Written::appends_more), unfolding(crate::specs::Printed::printed))]
-fn lines<W: Write>(
-    out: &mut W,
-    a: Answer,
-    states: &[u16],
-    words: &[u32],
-    values: &[u8],
-) -> io::Result<()>
-    ensures written { OnOk result (Appends (W.contents out.old) (W.contents out.new) (printed (told a) states.now words.now values.now)) }
-    ensures error { OnErr result (Begins (W.contents out.old) (W.contents out.new) (printed (told a) states.now words.now values.now)) }
+// The lines of an answer, or of a refusal.
+#[tactic(auto, unfolding(crate::specs::Printed::printed))]
+fn lines<W: Write>(out: &mut W, answer: Result<Answer, NoAnswer>, buffers: &Lent) -> io::Result<()>
+    ensures written { OnOk result (Appends (W.contents out.old) (W.contents out.new) (printed_after (leaving (told answer) (held buffers.now)))) }
+    ensures error { OnErr result (Begins (W.contents out.old) (W.contents out.new) (printed_after (leaving (told answer) (held buffers.now)))) }
 {
-    match a {
-        Answer::Yes(b, n) => {
-            show::verdict(out, b, b"yes", n)?;
-            show::structure(out, b, states, words, values)
+    match answer {
+        Ok(answer) => verdict(out, answer, buffers),
+        Err(e) => show::refusal(out, u64::from(u32::from(e)), e.place()),
+    }
+}
+
+// The lines of a verdict; after a yes, of the structure that lies in the buffers.
+#[tactic(auto, using(crate::proofs::Written::appends_more), unfolding(crate::specs::Printed::printed))]
+fn verdict<W: Write>(out: &mut W, answer: Answer, buffers: &Lent) -> io::Result<()>
+    ensures written { OnOk result (Appends (W.contents out.old) (W.contents out.new) (printed_after (leaving (told (Ok answer)) (held buffers.now)))) }
+    ensures error { OnErr result (Begins (W.contents out.old) (W.contents out.new) (printed_after (leaving (told (Ok answer)) (held buffers.now)))) }
+{
+    let totals = answer.totals;
+    match answer.outcome {
+        Outcome::Yes(n) => {
+            show::verdict(out, totals, b"yes", n)?;
+            show::structure(out, &buffers.structure(totals))
         }
-        Answer::No(b, n) => show::verdict(out, b, b"no", n),
-        Answer::Stopped(b, n) => show::verdict(out, b, b"stopped", n),
-        Answer::Lent => show::refusal(out, 10, 0),
-        Answer::Short => show::refusal(out, 11, 0),
-        Answer::Ranges => show::refusal(out, 12, 0),
-        Answer::Extent => show::refusal(out, 13, 0),
-        Answer::Node(i) => show::refusal(out, 14, i),
-        Answer::Oversized => show::refusal(out, 15, 0),
+        Outcome::No(n) => show::verdict(out, totals, b"no", n),
+        Outcome::Stopped(n) => show::verdict(out, totals, b"stopped", n),
     }
 }

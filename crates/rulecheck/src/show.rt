@@ -3,13 +3,13 @@ ghost use Rattle.std.specs.Prelude.{◌+◌, ◌++◌, OnOk, OnErr};
 ghost use Rattle.std.specs.Io.KnownBytes.{Appends};
 ghost use Rattle.encoding.specs.Limits.{max_states};
 ghost use Rattle.streams.specs.Writing.{Begins};
-ghost use Rattle.rulecheck.specs.Lines.{spaced, begun, newline, refusal_line, size_line, verdict_line, marked, state_line, line_of, structure_lines};
+ghost use Rattle.rulecheck.specs.Lines.{spaced, begun, newline, refusal_line, size_line, verdict_line, marked, state_line, line_at, lines_of};
 
 use encoding::Build;
 use std::io;
 use std::io::Write;
 use streams::write_full;
-use structure::Edge;
+use structure::{ATOMS, Edge, Structure, marked};
 
 // "refused, number, place"
 pub fn refusal<W: Write>(out: &mut W, number: u64, place: usize) -> io::Result<()>
@@ -37,37 +37,28 @@ pub fn verdict<W: Write>(out: &mut W, b: Build, word: &[u8], count: u32) -> io::
 
 // "For yes, each living state by number". One pass over the states, and for each that lives one over the words.
 #[tactic(auto, unfolding(crate::specs::Lines::lives_at))]
-pub fn structure<W: Write>(
-    out: &mut W,
-    b: Build,
-    states: &[u16],
-    words: &[u32],
-    values: &[u8],
-) -> io::Result<()>
-    ensures written { OnOk result (Appends (W.contents out.old) (W.contents out.new) (structure_lines b.states states.now b.variables words.now values.now)) }
-    ensures error { OnErr result (Begins (W.contents out.old) (W.contents out.new) (structure_lines b.states states.now b.variables words.now values.now)) }
+pub fn structure<W: Write>(out: &mut W, structure: &Structure) -> io::Result<()>
+    ensures written { OnOk result (Appends (W.contents out.old) (W.contents out.new) (lines_of structure.now)) }
+    ensures error { OnErr result (Begins (W.contents out.old) (W.contents out.new) (lines_of structure.now)) }
 {
     let mut lives = [0u8; Build::STATES];
-    structure::mark_living(states, b.states, values, b.variables, &mut lives);
-    living(out, b, states, words, values, &lives)
+    structure.mark_living(&mut lives);
+    living(out, structure, &lives)
 }
 
 // The lines of the states that are marked.
 #[tactic(auto, using(crate::proofs::Written::marks_written))]
 fn living<W: Write>(
     out: &mut W,
-    b: Build,
-    states: &[u16],
-    words: &[u32],
-    values: &[u8],
+    structure: &Structure,
     lives: &[u8; Build::STATES],
 ) -> io::Result<()>
-    ensures written { OnOk result (Appends (W.contents out.old) (W.contents out.new) (marked lives.now (λ i. line_of b.states states.now b.variables words.now values.now (i + 1)) max_states)) }
-    ensures error { OnErr result (Begins (W.contents out.old) (W.contents out.new) (marked lives.now (λ i. line_of b.states states.now b.variables words.now values.now (i + 1)) max_states)) }
+    ensures written { OnOk result (Appends (W.contents out.old) (W.contents out.new) (marked lives.now (λ i. line_at structure.now (i + 1)) max_states)) }
+    ensures error { OnErr result (Begins (W.contents out.old) (W.contents out.new) (marked lives.now (λ i. line_at structure.now (i + 1)) max_states)) }
 {
     for s in 0..Build::STATES {
-        if structure::marked(lives, s) {
-            state(out, b, states, words, values, s + 1)?;
+        if marked(lives, s) {
+            state(out, structure, s + 1)?;
         }
     }
     Ok(())
@@ -75,25 +66,18 @@ fn living<W: Write>(
 
 // The line of a state: its edge and its true atoms, read from the buffers.
 #[tactic(auto, unfolding(crate::specs::Lines::atoms_at))]
-fn state<W: Write>(
-    out: &mut W,
-    b: Build,
-    states: &[u16],
-    words: &[u32],
-    values: &[u8],
-    s: usize,
-) -> io::Result<()>
-    ensures written { OnOk result (Appends (W.contents out.old) (W.contents out.new) (line_of b.states states.now b.variables words.now values.now s)) }
-    ensures error { OnErr result (Begins (W.contents out.old) (W.contents out.new) (line_of b.states states.now b.variables words.now values.now s)) }
+fn state<W: Write>(out: &mut W, structure: &Structure, s: usize) -> io::Result<()>
+    ensures written { OnOk result (Appends (W.contents out.old) (W.contents out.new) (line_at structure.now s)) }
+    ensures error { OnErr result (Begins (W.contents out.old) (W.contents out.new) (line_at structure.now s)) }
 {
-    let edge = structure::edge_to(states, b.states, s);
-    let mut atoms = [0u8; 256];
-    structure::mark_atoms(words, b.variables, values, s, &mut atoms);
+    let edge = structure.edge_to(s);
+    let mut atoms = [0u8; ATOMS];
+    structure.mark_atoms(s, &mut atoms);
     line(out, s, edge, &atoms)
 }
 
 // "state, parent, relation, then its true atoms ascending"
-fn line<W: Write>(out: &mut W, s: usize, edge: Edge, atoms: &[u8; 256]) -> io::Result<()>
+fn line<W: Write>(out: &mut W, s: usize, edge: Edge, atoms: &[u8; ATOMS]) -> io::Result<()>
     ensures written { OnOk result (Appends (W.contents out.old) (W.contents out.new) (state_line s edge.parent edge.relation atoms.now)) }
     ensures error { OnErr result (Begins (W.contents out.old) (W.contents out.new) (state_line s edge.parent edge.relation atoms.now)) }
 {
@@ -108,12 +92,12 @@ fn line<W: Write>(out: &mut W, s: usize, edge: Edge, atoms: &[u8; 256]) -> io::R
 
 // The marked numbers ascending, each after a space.
 #[tactic(auto, using(crate::proofs::Written::marks_written))]
-fn put_marked<W: Write>(out: &mut W, marks: &[u8; 256]) -> io::Result<()>
+fn put_marked<W: Write>(out: &mut W, marks: &[u8; ATOMS]) -> io::Result<()>
     ensures written { OnOk result (Appends (W.contents out.old) (W.contents out.new) (marked marks.now spaced 256)) }
     ensures error { OnErr result (Begins (W.contents out.old) (W.contents out.new) (marked marks.now spaced 256)) }
 {
-    for a in 0..256 {
-        if structure::marked(marks, a) {
+    for a in 0..ATOMS {
+        if marked(marks, a) {
             put(out, a as u64)?;
         }
     }

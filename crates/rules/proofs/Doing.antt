@@ -19,10 +19,11 @@ use Rattle.clauses.specs.Clause.{literal, minus, two, three}
 use Rattle.encoding.specs.Build as def
 use Rattle.encoding.specs.Build.{place, insert, ask, asked, write, make, rule1, rule2, push, norecord, states#}
 use Rattle.encoding.specs.Limits.{max_states}
-use Rattle.encoding.specs.Shows.{Room, Buffers, buffers, Shows, Asks, Writes, Makes, record_at}
-use Rattle.encoding.specs.declared.counts.Counts.{Counts}
-use Rattle.encoding.specs.declared.asking.Asked.{Asked}
-use Rattle.encoding.specs.declared.making.Record.{Record}
+use Rattle.encoding.specs.Shows.{Room, Buffers, buffers, Shows, Asks, Writes, Makes}
+use Rattle.encoding.specs.Shows.{Tally}
+use Rattle.encoding.specs.Shows.{Reply}
+use Rattle.records.specs.declared.State.{State}
+use Rattle.records.specs.Table.{row_at}
 use Rattle.encoding.proofs.Variables.{place-stays, place_in}
 use Rattle.encoding.proofs.Totals.{less_then, ask-less, write-less}
 use Rattle.encoding.proofs.Rows.{numbers-at}
@@ -40,7 +41,7 @@ unfolding asked
 literal-asked l p h s x A e = ap₂ literal (ap (λ (z : Ask). z.minus) h.is) e
 
 -- one asking
-module _ {c : Counts} {s : ℕ} {l : Ask} {ws ws' : List ℕ} {x : Asked} (a : Asks c s l.key ws ws' x) (p : class.Ask) (P : Part l p) (o : Buffers) (st : List ℕ) (cs : List ℤ) (B : def.Build)
+module _ {c : Tally} {s : ℕ} {l : Ask} {ws ws' : List ℕ} {x : Reply} (a : Asks c s l.key ws ws' x) (p : class.Ask) (P : Part l p) (o : Buffers) (st : List ℕ) (cs : List ℤ) (B : def.Build)
     (sh : Shows o c (buffers st ws cs) B) where
   pub asks_part : Shows o x.counts (buffers st ws' cs) (ask s p B)
   asks_part = a.does o st cs B p P.small (part-key l p P) sh
@@ -52,7 +53,7 @@ module _ {c : Counts} {s : ℕ} {l : Ask} {ws ws' : List ℕ} {x : Asked} (a : A
   literal-part f = literal-asked l p P s x.variable (ask s p B) (place-part f)
 
 -- two askings at one state: the first variable stays where it is
-module _ {c : Counts} {s : ℕ} {l m : Ask} {ws ws₁ ws₂ : List ℕ} {x y : Asked} (ax : Asks c s l.key ws ws₁ x) (ay : Asks x.counts s m.key ws₁ ws₂ y) (p q : class.Ask) (P : Part l p) (Q : Part m q)
+module _ {c : Tally} {s : ℕ} {l m : Ask} {ws ws₁ ws₂ : List ℕ} {x y : Reply} (ax : Asks c s l.key ws ws₁ x) (ay : Asks x.counts s m.key ws₁ ws₂ y) (p q : class.Ask) (P : Part l p) (Q : Part m q)
     (o : Buffers) (st : List ℕ) (cs : List ℤ) (B : def.Build) (sh : Shows o c (buffers st ws cs) B) where
   asks_both : Shows o y.counts (buffers st ws₂ cs) (ask s q (ask s p B))
   asks_both = asks_part ay q Q o st cs (ask s p B) (asks_part ax p P o st cs B sh)
@@ -66,8 +67,8 @@ module _ {c : Counts} {s : ℕ} {l m : Ask} {ws ws₁ ws₂ : List ℕ} {x y : A
   literal-second : y.counts.over ≡ 0 → literal m.minus y.variable ≡ asked s q (ask s q (ask s p B))
   literal-second f = literal-part ay q Q o st cs (ask s p B) (asks_part ax p P o st cs B sh) f
 
-module _ {c : Counts} {s a : ℕ} {l m : Ask} {ws ws₁ ws₂ : List ℕ} {cs : List ℤ} {x y : Asked} (ax : Asks c s l.key ws ws₁ x) (ay : Asks x.counts s m.key ws₁ ws₂ y) where
-  pub conjunctive_does : {cs₁ cs₂ k₁ k₂ : List ℤ} {d e : Counts} → Writes y.counts k₁ cs cs₁ d → Writes d k₂ cs₁ cs₂ e
+module _ {c : Tally} {s a : ℕ} {l m : Ask} {ws ws₁ ws₂ : List ℕ} {cs : List ℤ} {x y : Reply} (ax : Asks c s l.key ws ws₁ x) (ay : Asks x.counts s m.key ws₁ ws₂ y) where
+  pub conjunctive_does : {cs₁ cs₂ k₁ k₂ : List ℤ} {d e : Tally} → Writes y.counts k₁ cs cs₁ d → Writes d k₂ cs₁ cs₂ e
       → k₁ ≡ two (minus a) (literal l.minus x.variable) → k₂ ≡ two (minus a) (literal m.minus y.variable) → TwoParts class.conjunctive s a l m c e ws ws₂ cs cs₂
   unfolding rule1
   conjunctive_does w₁ w₂ i₁ i₂ =
@@ -83,7 +84,7 @@ module _ {c : Counts} {s a : ℕ} {l m : Ask} {ws ws₁ ws₂ : List ℕ} {cs : 
             (w₁.does o st ws₂ A k refl (λ f. i₁ ∙ rw (av, literal-first ax ay p q P Q o st cs B sh f)) (asks_both ax ay p q P Q o st cs B sh));
       }
 
-  pub disjunctive_does : {cs₁ k : List ℤ} {d : Counts} → Writes y.counts k cs cs₁ d → k ≡ three (minus a) (literal l.minus x.variable) (literal m.minus y.variable)
+  pub disjunctive_does : {cs₁ k : List ℤ} {d : Tally} → Writes y.counts k cs cs₁ d → k ≡ three (minus a) (literal l.minus x.variable) (literal m.minus y.variable)
       → TwoParts class.disjunctive s a l m c d ws ws₂ cs cs₁
   unfolding rule1
   disjunctive_does w i =
@@ -96,7 +97,7 @@ module _ {c : Counts} {s a : ℕ} {l m : Ask} {ws ws₁ ws₂ : List ℕ} {cs : 
       }
 
 -- an existential variable
-module _ {c d : Counts} {s r a : ℕ} {st st' : List ℕ} (mk : Makes c s r a st st' d) (l : Ask) (ws : List ℕ) (cs : List ℤ) where
+module _ {c d : Tally} {s r a : ℕ} {st st' : List ℕ} (mk : Makes c s r a st st' d) (l : Ask) (ws : List ℕ) (cs : List ℤ) where
   makes : (v : ℕ) → a ≡ suc v → (o : Buffers) (B : def.Build) → Shows o c (buffers st ws cs) B → Shows o d (buffers st' ws cs) (make (record { parent = s; relation = r; maker = suc v }) B)
   makes v av o B sh = subst (λ (z : ℕ). Shows o d (buffers st' ws cs) (make (record { parent = s; relation = r; maker = z }) B)) av (mk.does o ws cs B sh)
 
@@ -116,7 +117,7 @@ module _ {c d : Counts} {s r a : ℕ} {st st' : List ℕ} (mk : Makes c s r a st
   unfolding make
   next-state f v av o B sh = ((makes v av o B sh).exact f).states ∙ length_snoc B.states (record { parent = s; relation = r; maker = suc v })
 
-  pub existential_does : d.over ≡ 0 → {ws' : List ℕ} {cs' k : List ℤ} {x : Asked} {e : Counts} → Asks d d.states l.key ws ws' x → Writes x.counts k cs cs' e
+  pub existential_does : d.over ≡ 0 → {ws' : List ℕ} {cs' k : List ℤ} {x : Reply} {e : Tally} → Asks d d.states l.key ws ws' x → Writes x.counts k cs cs' e
       → k ≡ two (minus a) (literal l.minus x.variable) → Opens s a r l c e (buffers st ws cs) (buffers st' ws' cs')
   unfolding rule2
   existential_does f {ws'} {cs'} {k} {x} {e} ax w i =
@@ -144,17 +145,17 @@ not-both a b d e h = go (ℕ_discrete a b) (ℕ_discrete d e)
     go (yes p) (no q) = rw (eq-eqb a b p, ne_eqb d e q)
 
 -- the record that the code reads is the build's
-record_shown : (o : Buffers) (c : Counts) (st ws : List ℕ) (cs : List ℤ) (B : def.Build) (j : ℕ) (d : Record) → d ≡ record_at st j → c.over ≡ 0 → j < max_states → Shows o c (buffers st ws cs) B
+record_shown : (o : Buffers) (c : Tally) (st ws : List ℕ) (cs : List ℤ) (B : def.Build) (j : ℕ) (d : State) → d ≡ row_at st j → c.over ≡ 0 → j < max_states → Shows o c (buffers st ws cs) B
     → (d.parent ≡ (get_or B.states j norecord).parent) × (d.relation ≡ (get_or B.states j norecord).relation) × (d.maker ≡ (get_or B.states j norecord).maker)
 record_shown o c st ws cs B j d e off low sh =
     let y = (sh.exact off).in_states in
     let h = numbers-at B.states j in (
-      ap (λ (z : Record). z.parent) e ∙ y (3 * j) (omega arith) ∙ h.0,
-      ap (λ (z : Record). z.relation) e ∙ y (3 * j + 1) (omega arith) ∙ h.1,
-      ap (λ (z : Record). z.maker) e ∙ y (3 * j + 2) (omega arith) ∙ h.2,
+      ap (λ (z : State). z.parent) e ∙ y (3 * j) (omega arith) ∙ h.0,
+      ap (λ (z : State). z.relation) e ∙ y (3 * j + 1) (omega arith) ∙ h.1,
+      ap (λ (z : State). z.maker) e ∙ y (3 * j + 2) (omega arith) ∙ h.2,
     )
 
-module _ {c : Counts} {s r a j : ℕ} {l : Ask} {st ws : List ℕ} {cs : List ℤ} {d : Record} (is : d ≡ record_at st j) (room : Room c) (off : c.over ≡ 0) (low : j < c.states) where
+module _ {c : Tally} {s r a j : ℕ} {l : Ask} {st ws : List ℕ} {cs : List ℤ} {d : State} (is : d ≡ row_at st j) (room : Room c) (off : c.over ≡ 0) (low : j < c.states) where
   pub push_skips : (d.parent ≡ s → d.relation ≡ r → ⊥) → Pushes (λ φ v p. push φ s v r p j) a l c c (buffers st ws cs) (buffers st ws cs)
   unfolding push
   push_skips out =
@@ -165,7 +166,7 @@ module _ {c : Counts} {s r a j : ℕ} {l : Ask} {st ws : List ℕ} {cs : List �
             rw (not-both (get_or B.states j norecord).parent s (get_or B.states j norecord).relation r (λ x y. out (h.0 ∙ x) (h.1 ∙ y))) sh;
       }
 
-  pub push-does : d.parent ≡ s → d.relation ≡ r → {ws' : List ℕ} {cs' k : List ℤ} {x : Asked} {e : Counts} → Asks c (j + 1) l.key ws ws' x → Writes x.counts k cs cs' e
+  pub push-does : d.parent ≡ s → d.relation ≡ r → {ws' : List ℕ} {cs' k : List ℤ} {x : Reply} {e : Tally} → Asks c (j + 1) l.key ws ws' x → Writes x.counts k cs cs' e
       → k ≡ three (minus a) (minus d.maker) (literal l.minus x.variable) → Pushes (λ φ v p. push φ s v r p j) a l c e (buffers st ws cs) (buffers st ws' cs')
   unfolding push
   push-does ep er {ws'} {cs'} {k} {x} {e} ax w i =

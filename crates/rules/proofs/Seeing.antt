@@ -17,12 +17,12 @@ use Rattle.signed.specs.Signed.{number, plus, classed, leaf, conjunctive, disjun
 use Rattle.signed.specs.Asking.{class_of, Small, Tame}
 use Rattle.signed.specs.declared.Ask.{Ask}
 use Rattle.signed.specs.declared.Class.{Class}
-use Rattle.signed.specs.declared.Class.TheVariants.{Leaf, Conjunctive, Disjunctive, Existential, Universal}
+use Rattle.signed.specs.declared.Class.TheVariants.{Conjunctive, Disjunctive, Existential, Universal}
 use Rattle.encoding.specs.Build as def
 use Rattle.encoding.specs.Build.{novariable, Plan, plan, role, by, rule1, rule2, rule3}
 use Rattle.encoding.specs.Limits.{word}
 use Rattle.encoding.specs.Shows.{Room, Buffers, buffers, Shows}
-use Rattle.encoding.specs.declared.counts.Counts.{Counts}
+use Rattle.encoding.specs.Shows.{Tally}
 use Rattle.encoding.proofs.Facts.{Parts}
 use Rattle.encoding.proofs.Bounds.{class-small}
 use Rattle.encoding.proofs.Words.{word-state, word-key, word_at}
@@ -36,53 +36,31 @@ sees_in ns v ws k r e h = record { tame = h.0; is = λ x small q. h.1 x.key smal
 abbrev Smalls : class.Class → Type 0
 Smalls C = Parts (λ (l : class.Ask). Small l.key) C
 
--- the class that a seen variant comes from
-unfoldable pub kind : Class → ℕ
-kind Leaf = 0
-kind (Conjunctive l m) = 1
-kind (Disjunctive l m) = 2
-kind (Existential r l) = 3
-kind (Universal r l) = 4
-
-kind_of : class.Class → ℕ
-kind_of leaf = 0
-kind_of (conjunctive l m) = 1
-kind_of (disjunctive l m) = 2
-kind_of (existential r l) = 3
-kind_of (universal r l) = 4
-
-kind-is : (C : class.Class) → kind (class_of C) ≡ kind_of C
-unfolding kind kind_of class_of
-kind-is leaf = refl
-kind-is (conjunctive l m) = refl
-kind-is (disjunctive l m) = refl
-kind-is (existential r l) = refl
-kind-is (universal r l) = refl
-
-module _ (φ : Plan) (s u : ℕ) (B : def.Build) (n : ℕ) where
-  idle1 : (C : class.Class) → n ≡ kind_of C → (n ≡ 1 → ⊥) → (n ≡ 2 → ⊥) → rule1 φ s u C B ≡ B
-  unfolding rule1 kind_of
+-- where the code does nothing, neither does the definition's rule
+module _ (φ : Plan) (s u : ℕ) (B : def.Build) (x : Class) where
+  idle1 : (C : class.Class) → x ≡ class_of C → ((l m : Ask) → x ≡ Conjunctive l m → ⊥) → ((l m : Ask) → x ≡ Disjunctive l m → ⊥) → rule1 φ s u C B ≡ B
+  unfolding rule1 class_of
   idle1 leaf e p q = refl
-  idle1 (conjunctive l m) e p q = absurd (p e)
-  idle1 (disjunctive l m) e p q = absurd (q e)
+  idle1 (conjunctive l m) e p q = absurd (p _ _ e)
+  idle1 (disjunctive l m) e p q = absurd (q _ _ e)
   idle1 (existential r l) e p q = refl
   idle1 (universal r l) e p q = refl
 
-  idle2 : (C : class.Class) → n ≡ kind_of C → (n ≡ 3 → ⊥) → rule2 φ s u C B ≡ B
-  unfolding rule2 kind_of
+  idle2 : (C : class.Class) → x ≡ class_of C → ((r : ℕ) (l : Ask) → x ≡ Existential r l → ⊥) → rule2 φ s u C B ≡ B
+  unfolding rule2 class_of
   idle2 leaf e p = refl
   idle2 (conjunctive l m) e p = refl
   idle2 (disjunctive l m) e p = refl
-  idle2 (existential r l) e p = absurd (p e)
+  idle2 (existential r l) e p = absurd (p _ _ e)
   idle2 (universal r l) e p = refl
 
-  idle3 : (C : class.Class) → n ≡ kind_of C → (n ≡ 4 → ⊥) → rule3 φ s u C B ≡ B
-  unfolding rule3 kind_of
+  idle3 : (C : class.Class) → x ≡ class_of C → ((r : ℕ) (l : Ask) → x ≡ Universal r l → ⊥) → rule3 φ s u C B ≡ B
+  unfolding rule3 class_of
   idle3 leaf e p = refl
   idle3 (conjunctive l m) e p = refl
   idle3 (disjunctive l m) e p = refl
   idle3 (existential r l) e p = refl
-  idle3 (universal r l) e p = absurd (p e)
+  idle3 (universal r l) e p = absurd (p _ _ e)
 
 from_conjunctive : (C : class.Class) (l m : Ask) → Smalls C → Conjunctive l m ≡ class_of C → (p : class.Ask) × (q : class.Ask) × (C ≡ conjunctive p q) × Part l p × Part m q
 unfolding class_of Parts
@@ -117,7 +95,7 @@ from_universal (disjunctive p q) r l h e = let z : ◌≡◌ {A = ℕ} 0 1 = cc 
 from_universal (existential q p) r l h e = let z : ◌≡◌ {A = ℕ} 0 1 = cc in absurd (omega arith)
 
 -- the arms of the three rules: x is the class that was seen of the variable at place u, one of state s
-module _ {bs : List ℕ} {offset : ℕ} (sound : Sound bs offset) {s u : ℕ} {c : Counts} {ws : List ℕ} (room : Room c) (off : c.over ≡ 0) (low : u < c.variables) (own : get_or ws u 0 / 2048 ≡ s) {x : Class}
+module _ {bs : List ℕ} {offset : ℕ} (sound : Sound bs offset) {s u : ℕ} {c : Tally} {ws : List ℕ} (room : Room c) (off : c.over ≡ 0) (low : u < c.variables) (own : get_or ws u 0 / 2048 ≡ s) {x : Class}
     (sees : Sees (table_of bs) u ws x) where
   seen : (rule : ℕ → ℕ → class.Class → def.Build → def.Build) (root : ℕ) (o : Buffers) (st : List ℕ) (cs : List ℤ) (B : def.Build) → Shows o c (buffers st ws cs) B
       → (Q : def.Build → Type 0) → ((C : class.Class) → x ≡ class_of C → Smalls C → Q (rule s u C B)) → Q (by (plan (table_of bs) root) rule s u B)
@@ -130,7 +108,7 @@ module _ {bs : List ℕ} {offset : ℕ} (sound : Sound bs offset) {s u : ℕ} {c
       rw (eq-eqb e.state s p)
       (f (classed (table_of bs) (plus e.key)) (sees.is e (y.keys u) w) (class-small (table_of bs) (sound-below bs offset sound) sound.few (sound-atoms bs offset sound) e.key))
 
-  module _ {r : Counts} {cs cs' : List ℤ} {ws' : List ℕ} where
+  module _ {r : Tally} {cs cs' : List ℤ} {ws' : List ℕ} where
     pub arm_conjunctive : {l m : Ask} → x ≡ Conjunctive l m → TwoParts conjunctive s (u + 1) l m c r ws ws' cs cs' → Asking (λ φ. by φ (rule1 φ) s u) (table_of bs) c r ws ws' cs cs'
     arm_conjunctive {l} {m} g f =
         record {
@@ -178,33 +156,29 @@ module _ {bs : List ℕ} {offset : ℕ} (sound : Sound bs offset) {s u : ℕ} {c
         }
 
   -- an arm that does nothing
-  module _ (n : ℕ) (is : kind x ≡ n) where
-    kinds : (C : class.Class) → x ≡ class_of C → n ≡ kind_of C
-    kinds C e = sym is ∙ ap kind e ∙ kind-is C
+  pub rests1 : {cs : List ℤ} → ((l m : Ask) → x ≡ Conjunctive l m → ⊥) → ((l m : Ask) → x ≡ Disjunctive l m → ⊥) → Asking (λ φ. by φ (rule1 φ) s u) (table_of bs) c c ws ws cs cs
+  rests1 {cs} p q =
+      record {
+        stays = stays-refl c ws room;
+        does = λ root st o B sh.
+            seen (rule1 (plan (table_of bs) root)) root o st cs B sh (λ C. Shows o c (buffers st ws cs) C) (λ C e h. rw (idle1 (plan (table_of bs) root) s u B x C e p q) sh);
+      }
 
-    pub rests1 : {cs : List ℤ} → (n ≡ 1 → ⊥) → (n ≡ 2 → ⊥) → Asking (λ φ. by φ (rule1 φ) s u) (table_of bs) c c ws ws cs cs
-    rests1 {cs} p q =
-        record {
-          stays = stays-refl c ws room;
-          does = λ root st o B sh.
-              seen (rule1 (plan (table_of bs) root)) root o st cs B sh (λ C. Shows o c (buffers st ws cs) C) (λ C e h. rw (idle1 (plan (table_of bs) root) s u B n C (kinds C e) p q) sh);
-        }
+  pub rests2 : {st : List ℕ} {cs : List ℤ} → ((r : ℕ) (l : Ask) → x ≡ Existential r l → ⊥) → Making s (λ φ. by φ (rule2 φ) s u) (table_of bs) c c (buffers st ws cs) (buffers st ws cs)
+  rests2 {st} {cs} p =
+      record {
+        moves = moves-refl s c st ws room;
+        does = λ root o B sh.
+            seen (rule2 (plan (table_of bs) root)) root o st cs B sh (λ C. Shows o c (buffers st ws cs) C) (λ C e h. rw (idle2 (plan (table_of bs) root) s u B x C e p) sh);
+      }
 
-    pub rests2 : {st : List ℕ} {cs : List ℤ} → (n ≡ 3 → ⊥) → Making s (λ φ. by φ (rule2 φ) s u) (table_of bs) c c (buffers st ws cs) (buffers st ws cs)
-    rests2 {st} {cs} p =
-        record {
-          moves = moves-refl s c st ws room;
-          does = λ root o B sh.
-              seen (rule2 (plan (table_of bs) root)) root o st cs B sh (λ C. Shows o c (buffers st ws cs) C) (λ C e h. rw (idle2 (plan (table_of bs) root) s u B n C (kinds C e) p) sh);
-        }
-
-    pub rests3 : {st : List ℕ} {cs : List ℤ} → (n ≡ 4 → ⊥) → Pushing (λ φ. by φ (rule3 φ) s u) (table_of bs) c c (buffers st ws cs) (buffers st ws cs)
-    rests3 {st} {cs} p =
-        record {
-          stays = stays-refl c ws room;
-          does = λ root o B sh.
-              seen (rule3 (plan (table_of bs) root)) root o st cs B sh (λ C. Shows o c (buffers st ws cs) C) (λ C e h. rw (idle3 (plan (table_of bs) root) s u B n C (kinds C e) p) sh);
-        }
+  pub rests3 : {st : List ℕ} {cs : List ℤ} → ((r : ℕ) (l : Ask) → x ≡ Universal r l → ⊥) → Pushing (λ φ. by φ (rule3 φ) s u) (table_of bs) c c (buffers st ws cs) (buffers st ws cs)
+  rests3 {st} {cs} p =
+      record {
+        stays = stays-refl c ws room;
+        does = λ root o B sh.
+            seen (rule3 (plan (table_of bs) root)) root o st cs B sh (λ C. Shows o c (buffers st ws cs) C) (λ C e h. rw (idle3 (plan (table_of bs) root) s u B x C e p) sh);
+      }
 
 -- the parts of what was seen can be asked for
 module _ {ns : List Node} {u : ℕ} {ws : List ℕ} {x : Class} (sees : Sees ns u ws x) where

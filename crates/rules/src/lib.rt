@@ -4,153 +4,95 @@
 mod classes;
 
 ghost use Rattle.std.specs.Prelude.{◌≡◌, ◌*◌, ◌/◌, ◌≤◌, ◌<◌, length, get_or};
-ghost use Rattle.book.specs.Rulebook.{table_of};
-ghost use Rattle.book.specs.Told.{Sound};
+ghost use Rattle.book.specs.Held.{nodes_in};
+ghost use Rattle.records.specs.Table.{numbers_of};
 ghost use Rattle.encoding.specs.Build as def;
-ghost use Rattle.encoding.specs.Limits.{max_variables, max_clauses, Long};
-ghost use Rattle.encoding.specs.Index.{Indexed};
-ghost use Rattle.encoding.specs.Shows.{Room, Low, Parents, buffers};
+ghost use Rattle.encoding.specs.Limits.{max_states, max_variables};
+ghost use Rattle.encoding.specs.Holds.{Holds};
+ghost use Rattle.encoding.specs.Drafts.{SameDraft, words_in, held};
+ghost use Rattle.encoding.specs.Shows.{Low, Parents, counted, after};
 ghost use Rattle.rules.specs.Does.{Sees, Asking, Making, Pushing};
 
+use book::Book;
 use classes::{conjunctive, disjunctive, existential, universal};
-use encoding::{Counts, key_at};
+use encoding::{Counts, Draft, Index, Over, key_at};
+use records::State;
 use signed::{Class, classify};
 
-// The class of the variable at place v.
-fn role(book: &[u8], offset: usize, nodes: usize, words: &[u32], v: usize) -> Class
-    requires sound { Sound book.now offset × (nodes ≡ length (table_of book.now)) }
-    requires v_in_bounds { v < length words.now }
-    ensures { Sees (table_of book.now) v words.now result }
+// The class of the variable at place v. Inlined, so that a rule forms only the parts that it asks for.
+#[inline(always)]
+fn role(book: &Book, index: &Index, v: usize) -> Class
+    requires { v < max_variables }
+    ensures { Sees (nodes_in book.now) v index.now.words.now result }
 {
-    classify(book, offset, nodes, key_at(words, v))
+    classify(book, key_at(index.words, v))
 }
 
 // Phase 1: a conjunctive or disjunctive variable.
-pub fn rule1(
-    book: &[u8],
-    offset: usize,
-    nodes: usize,
-    words: &mut [u32],
-    finder: &mut [u16],
-    own: &mut [u16],
-    clauses: &mut [i16],
-    c: Counts,
-    s: usize,
-    v: usize,
-) -> Counts
-    requires sound { Sound book.now offset × (nodes ≡ length (table_of book.now)) }
-    requires room { Room c × (s ≤ c.states) × (v < c.variables) }
-    requires indexed { (get_or words.old v 0 / 2048 ≡ s) × Indexed c.variables words.old finder.old own.old }
-    requires long { (max_variables ≤ length words.old) × (3 * max_clauses ≤ length clauses.old) }
-    ensures { Asking (λ φ. def.by φ (def.rule1 φ) s v) (table_of book.now) c result words.old words.new clauses.old clauses.new
-        × Indexed result.variables words.new finder.new own.new }
+pub fn rule1(book: &Book, draft: &mut Draft, c: Counts, s: usize, v: usize) -> Result<Counts, Over>
+    requires room { (s ≤ c.states) × (v < c.variables) }
+    requires here { get_or (words_in draft.old) v 0 / 2048 ≡ s }
+    requires indexed { Holds c.variables draft.old.index.now }
+    ensures does { Asking (λ φ. def.by φ (def.rule1 φ) s v) (nodes_in book.now) (counted c) (after result) (words_in draft.old) (words_in draft.new) draft.old.clauses.now draft.new.clauses.now }
+    ensures indexed { Holds (after result).variables draft.new.index.now }
+    ensures same { SameDraft draft.old draft.new }
 {
-    if c.over != 0 {
-        return c;
-    }
-    let class = role(book, offset, nodes, words, v);
-    match class {
-        Class::Conjunctive(l, m) => conjunctive(words, finder, own, clauses, c, s, v + 1, l, m),
-        Class::Disjunctive(l, m) => disjunctive(words, finder, own, clauses, c, s, v + 1, l, m),
-        Class::Leaf => c,
-        Class::Existential(_, _) => c,
-        Class::Universal(_, _) => c,
+    match role(book, draft.index, v) {
+        Class::Conjunctive(l, m) => conjunctive(draft, c, s, v + 1, l, m),
+        Class::Disjunctive(l, m) => disjunctive(draft, c, s, v + 1, l, m),
+        _ => Ok(c),
     }
 }
 
 // Phase 2: an existential variable.
 pub fn rule2(
-    book: &[u8],
-    offset: usize,
-    nodes: usize,
-    states: &mut [u16],
-    words: &mut [u32],
-    finder: &mut [u16],
-    own: &mut [u16],
-    clauses: &mut [i16],
+    book: &Book,
+    states: &mut [State],
+    draft: &mut Draft,
     c: Counts,
     s: usize,
     v: usize,
-) -> Counts
-    requires sound { Sound book.now offset × (nodes ≡ length (table_of book.now)) }
-    requires room { Room c × (s ≤ c.states) × (v < c.variables) }
-    requires indexed { (get_or words.old v 0 / 2048 ≡ s) × Indexed c.variables words.old finder.old own.old }
-    requires long { Long states.old words.old clauses.old }
-    ensures { Making s (λ φ. def.by φ (def.rule2 φ) s v) (table_of book.now) c result
-        (buffers states.old words.old clauses.old)
-        (buffers states.new words.new clauses.new)
-        × Indexed result.variables words.new finder.new own.new }
+) -> Result<Counts, Over>
+    requires room { (s ≤ c.states) × (v < c.variables) }
+    requires here { get_or (words_in draft.old) v 0 / 2048 ≡ s }
+    requires indexed { Holds c.variables draft.old.index.now }
+    requires long { max_states ≤ length states.old }
+    ensures does { Making s (λ φ. def.by φ (def.rule2 φ) s v) (nodes_in book.now) (counted c) (after result)
+        (held states.old draft.old)
+        (held states.new draft.new) }
+    ensures indexed { Holds (after result).variables draft.new.index.now }
+    ensures same { SameDraft draft.old draft.new }
 {
-    if c.over != 0 {
-        return c;
-    }
-    let class = role(book, offset, nodes, words, v);
-    match class {
-        Class::Existential(r, l) => existential(
-            states,
-            words,
-            finder,
-            own,
-            clauses,
-            c,
-            s,
-            v + 1,
-            r,
-            l,
-        ),
-        Class::Leaf => c,
-        Class::Conjunctive(_, _) => c,
-        Class::Disjunctive(_, _) => c,
-        Class::Universal(_, _) => c,
+    match role(book, draft.index, v) {
+        Class::Existential(r, l) => existential(states, draft, c, s, v + 1, r, l),
+        _ => Ok(c),
     }
 }
 
-// Phase 3: a universal variable. `before` is how many states there were before phase 2.
+// Phase 3: a universal variable. It reads the states, where phase 2 makes some, so that one function for both would be no plainer. `before` is how many
+// states there were before phase 2.
 pub fn rule3(
-    book: &[u8],
-    offset: usize,
-    nodes: usize,
-    states: &[u16],
-    words: &mut [u32],
-    finder: &mut [u16],
-    own: &mut [u16],
-    clauses: &mut [i16],
+    book: &Book,
+    states: &[State],
+    draft: &mut Draft,
     c: Counts,
     before: usize,
     s: usize,
     v: usize,
-) -> Counts
-    requires sound { Sound book.now offset × (nodes ≡ length (table_of book.now)) }
-    requires room { Room c × (v < c.variables) × (before ≤ c.states) }
-    requires indexed { (get_or words.old v 0 / 2048 ≡ s) × Indexed c.variables words.old finder.old own.old }
-    requires long { Long states.now words.old clauses.old }
-    requires low { Low states.now × Parents before s states.now }
-    ensures { Pushing (λ φ. def.by φ (def.rule3 φ) s v) (table_of book.now) c result
-        (buffers states.now words.old clauses.old)
-        (buffers states.now words.new clauses.new)
-        × Indexed result.variables words.new finder.new own.new }
+) -> Result<Counts, Over>
+    requires room { (v < c.variables) × (before ≤ c.states) }
+    requires here { get_or (words_in draft.old) v 0 / 2048 ≡ s }
+    requires indexed { Holds c.variables draft.old.index.now }
+    requires long { max_states ≤ length states.now }
+    requires low { Low (numbers_of states.now) × Parents before s (numbers_of states.now) }
+    ensures does { Pushing (λ φ. def.by φ (def.rule3 φ) s v) (nodes_in book.now) (counted c) (after result)
+        (held states.now draft.old)
+        (held states.now draft.new) }
+    ensures indexed { Holds (after result).variables draft.new.index.now }
+    ensures same { SameDraft draft.old draft.new }
 {
-    if c.over != 0 {
-        return c;
-    }
-    let class = role(book, offset, nodes, words, v);
-    match class {
-        Class::Universal(r, l) => universal(
-            states,
-            words,
-            finder,
-            own,
-            clauses,
-            c,
-            before,
-            s,
-            v + 1,
-            r,
-            l,
-        ),
-        Class::Leaf => c,
-        Class::Conjunctive(_, _) => c,
-        Class::Disjunctive(_, _) => c,
-        Class::Existential(_, _) => c,
+    match role(book, draft.index, v) {
+        Class::Universal(r, l) => universal(states, draft, c, before, s, v + 1, r, l),
+        _ => Ok(c),
     }
 }

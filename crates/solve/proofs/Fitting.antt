@@ -1,35 +1,27 @@
 -- What fits is ready for the search: the tests of `lengths_fit`, and `within` number by number. Assumes nothing.
-use mathlib.Core.Path.{◌≡◌, ap, ◌∙◌}
-use mathlib.Core.Bool.{true, false, ◌&&◌}
+use Rattle.std.specs.List.{list_all}
+use mathlib.Core.Path.{◌≡◌, refl, ap}
+use mathlib.Core.Bool.{Bool, true, ◌&&◌}
 use mathlib.Core.List.{List, [], ◌∷◌}
-use Prim.Native.Nat.{ℕ, zero, suc, ◌+◌, ◌/◌, ◌%◌, ◌≤◌, ◌<◌}
-use native.Mathlib.Numerals.{add-one}
+use Prim.Native.Nat.{ℕ, zero, suc, ◌/◌, ◌%◌, ◌≤◌}
 use native.Mathlib.Omega.{arith}
-use borrow.Author.Tests.{le-leb, lt-leb}
 use lib.Dec.{T, leb, eqb, leb→le, eqb→eq}
 use lib.IntN.{ℤ, pos, nat_abs}
-use lib.ListN.{length, get_or, drop, drop_of_length-le}
-use lib.Seq.{drop-cons}
+use lib.ListN.{length, get_or}
 use mir.Facts.{and_yes}
 use Rattle.propagation.specs.Ready.{Ready, space_for}
 use Rattle.solve.specs.Solved.{lengths_fit, within, fits}
 
--- from the i-th number on
-module _ (v : ℕ) (cl : List ℤ) (i : ℕ) where
-  from : i < length cl → drop i cl ≡ get_or cl i (pos 0) ∷ drop (i + 1) cl
-  from h = rw (add-one, drop-cons cl i (pos 0))
+-- each number passes
+all_within : (v : ℕ) (cl : List ℤ) → list_all (λ l. leb (nat_abs l) v) cl ≡ within v cl
+unfolding within
+all_within v [] = refl
+all_within v (l ∷ cl) = ap (λ (b : Bool). leb (nat_abs l) v && b) (all_within v cl)
 
-  pub within_more : i < length cl → nat_abs (get_or cl i (pos 0)) ≤ v → within v (drop i cl) ≡ within v (drop (i + 1) cl)
-  unfolding within
-  within_more h q = ap (within v) (from h) ∙ simp (le-leb (nat_abs (get_or cl i (pos 0))) v q)
-
-  pub within-not : i < length cl → v < nat_abs (get_or cl i (pos 0)) → within v (drop i cl) ≡ false
-  unfolding within
-  within-not h q = ap (within v) (from h) ∙ simp (lt-leb (nat_abs (get_or cl i (pos 0))) v q)
-
-  pub within_end : length cl ≤ i → within v (drop i cl) ≡ true
-  unfolding within
-  within_end h = ap (within v) (drop_of_length-le cl {i = i} h)
+-- the lengths fit, and each number passes
+pub fits_both : (cl : List ℤ) (v room : ℕ) → lengths_fit (length cl) v room ≡ true → list_all (λ l. leb (nat_abs l) v) cl ≡ fits cl v room
+unfolding fits
+fits_both cl v room e = simp e (all_within v cl)
 
 within-at : (v : ℕ) (cl : List ℤ) → T (within v cl) → (k : ℕ) → nat_abs (get_or cl k (pos 0)) ≤ v
 unfolding within

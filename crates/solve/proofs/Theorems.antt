@@ -10,12 +10,12 @@ use lib.ListN.{length}
 use Rattle.ground.proofs.Tests.{true-T}
 use Rattle.clauses.specs.Clause.{Assignment, triples, valued}
 use Rattle.search.specs.Search.{nodes}
-use Rattle.branching.specs.Answered.{answer, Answered}
+use Rattle.branching.specs.Answered.{number_of, answer, Answered}
 use Rattle.search.specs.Models.{Satisfied}
 use Rattle.branching.specs.declared.Outcome.{Outcome}
 use Rattle.branching.specs.declared.Outcome.TheVariants.{Yes, No, Stopped}
 use Rattle.branching.proofs.Promise as promise
-use Rattle.solve.specs.Solved.{fits, number_of, searched, Solved}
+use Rattle.solve.specs.Solved.{fits, searched, Solved}
 use Rattle.solve.proofs.Fitting.{fits-ready}
 
 -- ---- what does not fit is refused

@@ -4,9 +4,7 @@ use Rattle.std.specs.Prelude.{◌≡◌, Bool, true, ◌&&◌, cond, List, [], �
 use Rattle.clauses.specs.Clause.{triples}
 use Rattle.search.specs.Search.{Run, run, left}
 use Rattle.propagation.specs.Ready.{space_for}
-use Rattle.branching.specs.Answered.{answer}
-use Rattle.branching.specs.declared.Outcome.{Outcome}
-use Rattle.branching.specs.declared.Outcome.TheVariants.{Yes, No, Stopped}
+use Rattle.branching.specs.Answered.{answer, number_of}
 
 -- the search's own limits, "A clause is three literals", and working space
 unfoldable pub lengths_fit : ℕ → ℕ → ℕ → Bool
@@ -19,12 +17,6 @@ within v (l ∷ clauses) = leb (nat_abs l) v && within v clauses
 
 unfoldable pub fits : List ℤ → ℕ → ℕ → Bool
 fits clauses v room = lengths_fit (length clauses) v room && within v clauses
-
--- "1 yes", "2 no", "3 stopped"
-abbrev pub number_of : Outcome → ℕ
-number_of (Yes n) = 1
-number_of (No n) = 2
-number_of (Stopped n) = 3
 
 -- the search of the clauses, over as many variables as there are values
 abbrev pub searched : List ℤ → List ℕ → Run

@@ -1,12 +1,10 @@
 // The search by itself, for measurements and for clauses from elsewhere: no book and no build, but clauses that the caller has made.
 #![tactic(auto)]
 
-ghost use Rattle.std.specs.Prelude.{◌≡◌};
+ghost use Rattle.std.specs.Prelude.{◌≡◌, nat_abs, nat_le};
+ghost use Rattle.std.specs.List.{list_all};
 ghost use Rattle.solve.specs.Solved as def;
-ghost use Rattle.solve.specs.Solved.{Solved, number_of};
-
-use branching::Outcome;
-use ground::both;
+ghost use Rattle.solve.specs.Solved.{Solved};
 
 // The search's own limits (`Ready`): what its table of truths has room for, and places that fit 16 bits.
 const VARIABLES: usize = 4095;
@@ -19,52 +17,35 @@ pub fn rulebook_search(clauses: &[i16], values: &mut [u8], work: &mut [u16], bud
     ensures { Solved clauses.now values.old work.old budget values.new work.new result }
 {
     if !fits(clauses, values.len(), work.len()) {
+        // a number, as C takes it
         return 10;
     }
     let many = clauses.len() / 3;
-    number(branching::search(clauses, many, values, work, budget))
+    u32::from(branching::search(clauses, many, values, work, budget))
 }
 
 // Whether these are clauses over v variables that the search takes, with `room` places of working space.
+#[tactic(auto, using(crate::proofs::Fitting::fits_both), unfolding(crate::specs::Solved::fits))]
 fn fits(clauses: &[i16], v: usize, room: usize) -> bool
     ensures { result ≡ def.fits clauses.now v room }
 {
-    both(lengths_fit(clauses.len(), v, room), within(clauses, v))
+    lengths_fit(clauses.len(), v, room) && within(clauses, v)
 }
 
 // The lengths alone.
+#[tactic(auto, unfolding(crate::specs::Solved::lengths_fit))]
 fn lengths_fit(numbers: usize, v: usize, room: usize) -> bool
     ensures { result ≡ def.lengths_fit numbers v room }
 {
-    if VARIABLES < v {
-        return false;
-    }
-    if NUMBERS < numbers {
-        return false;
-    }
-    both(numbers % 3 == 0, 2 * v + 1 + 3 * (numbers / 3) <= room)
+    v <= VARIABLES
+        && numbers <= NUMBERS
+        && numbers % 3 == 0
+        && 2 * v + 1 + 3 * (numbers / 3) <= room
 }
 
 // Whether every number is of one of v variables, or 0. One pass.
 fn within(clauses: &[i16], v: usize) -> bool
-    ensures { result ≡ def.within v clauses.now }
+    ensures { result ≡ list_all (λ l. nat_le (nat_abs l) v) clauses.now }
 {
-    let mut i: usize = 0;
-    while i < clauses.len() {
-        if v < propagation::number(clauses[i]) {
-            return false;
-        }
-        i += 1;
-    }
-    true
-}
-
-fn number(outcome: Outcome) -> u32
-    ensures { result ≡ number_of outcome }
-{
-    match outcome {
-        Outcome::Yes(_) => 1,
-        Outcome::No(_) => 2,
-        Outcome::Stopped(_) => 3,
-    }
+    clauses.iter().all(|l| propagation::number(*l) <= v)
 }

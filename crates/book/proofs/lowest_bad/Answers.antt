@@ -1,25 +1,24 @@
-use native.Mathlib.Omega.{arith}
-use mathlib.Core.Path.{◌≡◌, sym, ◌∙◌}
-use mathlib.Core.Bool.{true, false}
-use borrow.Author.Rules.{rules}
-use Rattle.book.proofs.Nodes.{lowest-turn, lowest_end}
+-- What `find` says of the numbers in the range.
+use Rattle.std.proofs.Common.{◌≡◌, ℕ, ◌≤◌, ◌<◌, arith, rules, tests, true, false, List, MatchOption}
+use Rattle.std.specs.Prelude.{Option, Some, None}
+use Rattle.std.proofs.lemmas.Iterator.{first_from_Range}
+use Rattle.book.specs.Rulebook.{node_at}
+use Rattle.book.specs.Told.{is_some, Kept}
+use Rattle.book.specs.declared.Header.{Header}
 use Rattle.book.proofs.lowest_bad.Goals as goal
 
-pub loop-i-preserved : goal.loop-i-preserved
-loop-i-preserved c =
-    let a = c.args in
-    let l = c.loop-i in
-    (search rules, sym (lowest-turn a.book.now a.h a.h.nodes l.i true (sym c.node_ok.ensures ∙ c.if-node_ok.true) c.loop-i-test.true) ∙ l.invariant.1)
-
-pub returns-else-node_ok : goal.returns-else-node_ok
-returns-else-node_ok c =
-    let a = c.args in
-    let l = c.loop-i in
-    sym (lowest-turn a.book.now a.h a.h.nodes l.i false (sym c.node_ok.ensures ∙ c.if-node_ok.false) c.loop-i-test.true) ∙ l.invariant.1
+module _ (bs : List ℕ) (h : Header) (n : ℕ) where
+  from_zero : (r : Option ℕ)
+      → MatchOption r ((k : ℕ) → 0 ≤ k → k < n → is_some (node_at bs h k) ≡ true)
+      (λ i. (0 ≤ i) × (i < n) × (is_some (node_at bs h i) ≡ false) × ((k : ℕ) → 0 ≤ k → k < i → is_some (node_at bs h k) ≡ true))
+      → MatchOption r (Kept bs h n) (λ i. (i < n) × (is_some (node_at bs h i) ≡ false) × Kept bs h i)
+  from_zero None f = λ k q. f k (omega arith) q
+  from_zero (Some i) f = (f.1, f.2, λ k q. f.3 k (omega arith) q)
 
 pub returns : goal.returns
 returns c =
     let a = c.args in
-    let l = c.loop-i in
-    let e : a.h.nodes ≡ l.i = omega (arith, l.invariant.0, c.loop-i-test.false) in
-    e ∙ sym (lowest_end a.book.now a.h a.h.nodes l.i c.loop-i-test.false) ∙ l.invariant.1
+    from_zero a.book.now a.h a.h.nodes c.find.result
+    (first_from_Range _ _ _ _ (λ i. is_some (node_at a.book.now a.h i) ≡ false) (λ i. is_some (node_at a.book.now a.h i) ≡ true) c.find.ensures.ran
+    (λ x q k. search (rules, tests))
+    (λ x q k. (search rules, search (rules, tests))))

@@ -7,6 +7,7 @@ use Rattle.book.specs.Rulebook.{ranges}
 use Rattle.book.specs.Told.{told}
 use Rattle.book.proofs.Headers.{Tested, ranges_in, extent_in}
 use Rattle.book.proofs.Verdicts.{refused_short, refused-ranges, refused-extent, refused-node, accepted-whole}
+use Rattle.book.proofs.Nodes.{none_bad, first_bad}
 use Rattle.book.proofs.read.Goals as goal
 use Rattle.book.proofs.read.Goals.{Else-not-extent_ok, Else-not-ranges_ok}
 
@@ -39,23 +40,22 @@ returns-then-not-extent_ok c =
     refused-extent c.args.book.now c.read_header-h.result c.if-book-lt16.false c.read_header-h.ensures.0 (in_ranges (goal.at.returns-then-not-extent_ok c).Else-not-ranges_ok)
     (sym c.extent_ok.ensures ∙ not-true c.extent_ok.result c.if-not-extent_ok.true-raw)
 
-pub lowest_bad-i-requires : goal.lowest_bad-i-requires
-lowest_bad-i-requires c =
+pub lowest_bad-requires : goal.lowest_bad-requires
+lowest_bad-requires c =
     let h = c.read_header-h.result in
-    let r = ranges_in h (tested (goal.at.lowest_bad-i-requires c).Else-not-extent_ok).in_ranges in
-    let x = extent_in c.args.book.now h (tested (goal.at.lowest_bad-i-requires c).Else-not-extent_ok).in_extent in
+    let r = ranges_in h (tested (goal.at.lowest_bad-requires c).Else-not-extent_ok).in_ranges in
+    let x = extent_in c.args.book.now h (tested (goal.at.lowest_bad-requires c).Else-not-extent_ok).in_extent in
     (r.2.1, x.0.1, omega (arith, x.1, x.2))
 
-pub returns-then-i-h : goal.returns-then-i-h
+pub returns-in-Some : goal.returns-in-Some
 unfolding told
-returns-then-i-h c =
-    let a = c.args in
-    let l = c.lowest_bad-i in
-    refused-node a.book.now c.read_header-h.result (tested (goal.at.returns-then-i-h c).Else-not-extent_ok) l.result l.ensures c.if-i-h.true
+returns-in-Some c =
+    let f = c.in-Some.ensures in
+    let h = c.read_header-h.result in
+    refused-node c.args.book.now h (tested (goal.at.returns-in-Some c).Else-not-extent_ok) _ (first_bad c.args.book.now h h.nodes _ f.0 f.1 f.2) f.0
 
-pub returns : goal.returns
+pub returns-in-None : goal.returns-in-None
 unfolding told
-returns c =
-    let a = c.args in
-    let l = c.lowest_bad-i in
-    accepted-whole a.book.now c.read_header-h.result (tested (goal.at.returns c).Else-not-extent_ok) l.result l.ensures c.if-i-h.false
+returns-in-None c =
+    let h = c.read_header-h.result in
+    accepted-whole c.args.book.now h (tested (goal.at.returns-in-None c).Else-not-extent_ok) h.nodes (none_bad c.args.book.now h h.nodes c.in-None.ensures) (omega arith)

@@ -3,8 +3,7 @@ use mathlib.Core.List.{List, [], ◌∷◌}
 use Prim.Native.Nat.{ℕ, zero, suc, ◌+◌, ◌<◌}
 use native.Mathlib.Nat.{le_of_suc-le-suc, not-suc-le-zero}
 use native.Mathlib.Numerals.{add-one}
-use native.Mathlib.Omega.{arith}
-use lib.ListN.{length, get_or, set, length-set}
+use lib.ListN.{length, get_or, set}
 use Rattle.branching.proofs.finish.Goals as goal
 use Rattle.branching.proofs.finish.Invariants.{rest, part}
 
@@ -16,9 +15,7 @@ part-more f i l h = go i l h ∙ ap (λ (k : ℕ). part f k l) (sym (add-one i))
     go zero (x ∷ l) h = refl
     go (suc i) (x ∷ l) h = ap (λ (t : List ℕ). f x ∷ t) (go i l (le_of_suc-le-suc h))
 
-pub loop-i-preserved : goal.loop-i-preserved
-loop-i-preserved c = (
-  omega arith,
-  simp length-set c.loop-i.invariant.1,
-  ap (λ (l : List ℕ). set l c.loop-i.i (rest (get_or l c.loop-i.i 0))) c.loop-i.invariant.2 ∙ part-more rest c.loop-i.i c.args.values.now (omega arith),
-)
+pub loop-x-preserved : goal.loop-x-preserved
+loop-x-preserved c =
+    ap (λ (l : List ℕ). set l c.loop-x.x-index (rest (get_or l c.loop-x.x-index 0))) c.loop-x.invariant
+    ∙ part-more rest c.loop-x.x-index c.args.values.now c.loop-x-test.true

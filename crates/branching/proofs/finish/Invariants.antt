@@ -1,8 +1,8 @@
 -- The invariant: the first i marks have become values, the rest are as they were.
 use mathlib.Core.Path.{◌≡◌}
 use mathlib.Core.List.{List, ◌++◌, map}
-use Prim.Native.Nat.{ℕ, ◌-◌, ◌%◌, ◌≤◌}
-use lib.ListN.{length, take, drop}
+use Prim.Native.Nat.{ℕ, ◌%◌}
+use lib.ListN.{take, drop}
 use Rattle.branching.proofs.finish.Given as goal
 
 abbrev pub rest : ℕ → ℕ
@@ -12,8 +12,5 @@ rest x = x % 2
 abbrev pub part : (ℕ → ℕ) → ℕ → List ℕ → List ℕ
 part f i l = map f (take i l) ++ drop i l
 
-abbrev pub invariant-loop-i : goal.invariant-loop-i
-invariant-loop-i l = (l.i ≤ length l.initial.values) × (length l.values ≡ length l.initial.values) × (l.values ≡ part rest l.i l.initial.values)
-
-abbrev pub decreases-loop-i : goal.decreases-loop-i
-decreases-loop-i l = length l.initial.values - l.i
+abbrev pub invariant-loop-x : goal.invariant-loop-x
+invariant-loop-x l = l.values ≡ part rest l.x-index l.initial.values

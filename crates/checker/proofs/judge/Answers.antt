@@ -1,30 +1,34 @@
-use Rattle.checker.specs.Checked.{lent}
+use native.Mathlib.Omega.{arith}
+use mathlib.Core.Path.{◌≡◌, refl}
+use borrow.Author.Rules.{rules}
+use Rattle.std.specs.Prelude.{Err}
+use Rattle.book.specs.declared.refusal.NoAnswer.TheVariants.{Oversized}
+use Rattle.checker.specs.Lending.{held}
 use Rattle.checker.proofs.Promising.{enough-is}
 use Rattle.checker.proofs.Filling.{searchable, judged-over, judged-whole}
 use Rattle.checker.proofs.judge.Goals as goal
 
-pub clear_u8-requires : goal.clear_u8-requires
-clear_u8-requires c = (enough-is _ c.requires.enough).values
+pub clear-requires : goal.clear-requires
+clear-requires c = omega (arith, (enough-is _ c.requires.enough).values)
 
-pub clear_u16-requires : goal.clear_u16-requires
-clear_u16-requires c = (enough-is _ c.requires.enough).work
+pub clear-requires-2 : goal.clear-requires-2
+clear-requires-2 c = omega (arith, (enough-is _ c.requires.enough).work)
 
 pub fill-requires-clause-long : goal.fill-requires-clause-long
-fill-requires-clause-long c =
-    let e = enough-is _ c.requires.enough in
-    (e.states, e.words, e.clauses)
+fill-requires-clause-long c = let e = enough-is _ c.requires.enough in (e.states, e.words, e.clauses)
 
-pub decide-requires : goal.decide-requires
-decide-requires c =
-    rw (c.clear_u8.ensures, c.clear_u16.ensures)
-    (searchable _ _ c.requires.fit (lent c.args.states.now c.args.words.now c.args.clauses.now c.args.values.now c.args.work.now) c.requires.enough c.args.budget c.fill.ensures c.in-Whole.is)
+pub search-requires : goal.search-requires
+search-requires c =
+    rw (c.clear.ensures, c.clear-2.ensures)
+    (searchable c.args.book.now.table.sound c.args.root (omega (arith, c.args.book.now.whole, c.requires.root)) (held c.args.buffers.now) c.requires.enough c.args.budget c.in_ok-totals.ensures refl)
 
-pub returns-in-Over : goal.returns-in-Over
-returns-in-Over c =
-    rw (c.clear_u8.ensures, c.clear_u16.ensures)
-    (judged-over _ _ c.requires.fit (lent c.args.states.now c.args.words.now c.args.clauses.now c.args.values.now c.args.work.now) c.requires.enough c.args.budget c.fill.ensures c.in-Over.is)
+pub returns-in_err-totals-clause-judged : goal.returns-in_err-totals-clause-judged
+returns-in_err-totals-clause-judged c =
+    let is : c.from_residual.result ≡ Err Oversized = search rules in
+    rw (is, c.clear.ensures, c.clear-2.ensures)
+    (judged-over c.args.book.now.table.sound c.args.root (omega (arith, c.args.book.now.whole, c.requires.root)) (held c.args.buffers.now) c.requires.enough c.args.budget c.in_err-totals.ensures _ refl)
 
-pub returns-in-Whole : goal.returns-in-Whole
-returns-in-Whole c =
-    judged-whole _ _ c.requires.fit (lent c.args.states.now c.args.words.now c.args.clauses.now c.args.values.now c.args.work.now) c.requires.enough c.args.budget c.fill.ensures c.in-Whole.is c.decide.result
-    (rw (← c.clear_u8.ensures, ← c.clear_u16.ensures) c.decide.ensures)
+pub returns-clause-judged : goal.returns-clause-judged
+returns-clause-judged c =
+    judged-whole c.args.book.now.table.sound c.args.root (omega (arith, c.args.book.now.whole, c.requires.root)) (held c.args.buffers.now) c.requires.enough c.args.budget c.in_ok-totals.ensures refl c.search.result
+    (rw (← c.clear.ensures, ← c.clear-2.ensures) c.search.ensures)

@@ -2,32 +2,23 @@
 -- saved for every pending branch.
 use mathlib.Core.Path.{◌≡◌}
 use mathlib.Core.List.{List}
-use Prim.Native.Nat.{ℕ, ◌+◌, ◌-◌, ◌≤◌}
+use Prim.Native.Nat.{ℕ}
 use lib.ListN.{length}
-use lib.IntN.{ℤ}
 use Rattle.clauses.specs.Clause.{triples}
-use Rattle.search.specs.Search.{zeros, plus}
-use Rattle.propagation.specs.Judging.{Mirrors}
-use Rattle.propagation.specs.Unmet.{Counts}
+use Rattle.search.specs.Search.{plus}
 use Rattle.propagation.specs.Trail.{pending, AllSaved}
 use Rattle.propagation.specs.Propagation.{Started}
+use Rattle.propagation.specs.Assigned.{Keeps}
+use Rattle.propagation.specs.declared.assignment.Assignment.{Assignment}
 use Rattle.branching.specs.Nodes.{node_of, whole}
 use Rattle.branching.proofs.branch.walk.Given as goal
 
-pub record Way (cl : List ℤ) (a₀ t₀ s₀ : List ℕ) (budget : ℕ) (a w t s : List ℕ) (count top unmet : ℕ) : Type 0 where
-  pub low : count ≤ budget
-  pub long : length a ≡ length a₀
-  pub long_t : length t ≡ length t₀
-  pub long-s : length s ≡ length s₀
-  pub room : top + zeros a ≤ length t
-  pub is : node_of (triples cl) a₀ ≡ plus count (whole cl a t top)
-  pub started : Started cl a t top
-  pub saved : AllSaved cl s (pending a t top)
-  pub counts : Counts cl a unmet
-  pub mirrors : Mirrors a w
+pub record Way (s₀ s : Assignment) (sv : List ℕ) (count : ℕ) : Type 0 where
+  pub keeps : Keeps s₀ s
+  pub long : length sv ≡ length s.trail.now
+  pub is : node_of (triples s₀.formula.clauses.now) s₀.values.now ≡ plus count (whole s₀.formula.clauses.now s.values.now s.trail.now s.top)
+  pub started : Started s₀.formula.clauses.now s.values.now s.trail.now s.top
+  pub saved : AllSaved s₀.formula.clauses.now sv (pending s.values.now s.trail.now s.top)
 
 abbrev pub invariant-loop-count : goal.invariant-loop-count
-invariant-loop-count l = Way l.clauses l.initial.values l.initial.trail l.initial.saved l.budget l.values l.truth l.trail l.saved l.count l.top l.left
-
-abbrev pub decreases-loop-count : goal.decreases-loop-count
-decreases-loop-count l = l.budget - l.count
+invariant-loop-count l = Way l.initial.node l.node l.saved l.count

@@ -1,25 +1,25 @@
 -- The invariant: at v, a variable of the state or the end, stands what the definition's scan gives at v, and each turn so far was due. At the end no place
 -- is left, or the build is over for good. The measure is what is left of the limit.
-use Prim.Native.Nat.{ℕ, ◌/◌, ◌≤◌, ◌<◌, ◌-◌}
-use mathlib.Core.Path.{◌≡◌}
+use Prim.Native.Nat.{ℕ, ◌≤◌, ◌-◌}
+use Rattle.book.specs.Held.{nodes_in}
 use mathlib.Core.List.{List}
-use lib.ListN.{length, get_or}
-use Rattle.book.specs.Rulebook.{table_of}
 use Rattle.encoding.specs.Build as def
 use Rattle.encoding.specs.Build.{plan, scan, by, rule1, variables#}
-use Rattle.encoding.specs.Index.{Indexed}
+use Rattle.encoding.specs.Holds.{Holds}
+use Rattle.encoding.specs.Drafts.{SameDraft}
 use Rattle.encoding.specs.Limits.{max_variables}
-use Rattle.encoding.specs.Shows.{Buffers, buffers, Shows}
+use Rattle.encoding.specs.Shows.{Buffers, buffers, Shows, counted}
 use Rattle.encoding.proofs.Settling.{Due}
 use Rattle.rules.specs.Does.{Stays}
+use Rattle.build.proofs.Looping.{upto, Stands}
 use Rattle.build.proofs.phases.phase1.Given as goal
 
-abbrev pub invariant-loop-v : goal.invariant-loop-v
-invariant-loop-v l =
-    Stays l.initial.d l.d l.initial.words l.words × (length l.words ≡ length l.initial.words) × (length l.clauses ≡ length l.initial.clauses) × (length l.finder ≡ length l.initial.finder) × (length l.own ≡ length l.initial.own)
-    × Indexed l.d.variables l.words l.finder l.own × (l.v ≤ l.d.variables) × (l.v < l.d.variables → get_or l.words l.v 0 / 2048 ≡ l.s)
-    × ((root : ℕ) (o : Buffers) (st : List ℕ) (B : def.Build) → Shows o l.initial.d (buffers st l.initial.words l.initial.clauses) B
-    → Shows o l.d (buffers st l.words l.clauses) (scan (by (plan (table_of l.book) root) (rule1 (plan (table_of l.book) root)) l.s) l.v 0 B) × Due (by (plan (table_of l.book) root) (rule1 (plan (table_of l.book) root)) l.s) variables# l.v B)
+abbrev pub invariant-loop-next : goal.invariant-loop-next
+invariant-loop-next l =
+    Stays (counted l.initial.d) (counted l.d) l.initial.draft.index.now.words.now l.draft.index.now.words.now × SameDraft l.initial.draft l.draft
+    × Holds l.d.variables l.draft.index.now × (upto l.d.variables l.next ≤ l.d.variables) × Stands l.d.variables l.s l.draft.index.now.words.now l.next
+    × ((root : ℕ) (o : Buffers) (st : List ℕ) (B : def.Build) → Shows o (counted l.initial.d) (buffers st l.initial.draft.index.now.words.now l.initial.draft.clauses.now) B
+    → Shows o (counted l.d) (buffers st l.draft.index.now.words.now l.draft.clauses.now) (scan (by (plan (nodes_in l.book) root) (rule1 (plan (nodes_in l.book) root)) l.s) (upto l.d.variables l.next) 0 B) × Due (by (plan (nodes_in l.book) root) (rule1 (plan (nodes_in l.book) root)) l.s) variables# (upto l.d.variables l.next) B)
 
-abbrev pub decreases-loop-v : goal.decreases-loop-v
-decreases-loop-v l = max_variables - l.v
+abbrev pub decreases-loop-next : goal.decreases-loop-next
+decreases-loop-next l = max_variables - upto l.d.variables l.next

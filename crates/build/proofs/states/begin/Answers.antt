@@ -1,18 +1,38 @@
--- One asking and a clause.
+use native.Mathlib.Omega.{arith}
 use mathlib.Core.Bool.{false}
+use mathlib.Core.Path.{◌≡◌, refl}
 use Rattle.book.proofs.Accepted.{sound-below, sound-atoms}
-use Rattle.book.specs.Rulebook.{table_of}
+use Rattle.book.specs.Held.{nodes_in}
+use Rattle.signed.specs.Signed.{signed}
+use Rattle.encoding.specs.Shows.{counted, at_start}
 use Rattle.encoding.proofs.Bounds.{asked-small}
-use Rattle.rules.proofs.Moving.{indexed_written}
+use Rattle.encoding.proofs.Steps.{write-over}
+use Rattle.rules.specs.Does.{Part}
 use Rattle.build.proofs.Beginning.{begin_does}
+use Rattle.rules.proofs.Moving.{handed}
 use Rattle.build.proofs.states.begin.Goals as goal
+use Rattle.build.proofs.states.begin.Goals.{After-start}
 
-pub returns : goal.returns
-returns c =
-    let b = c.args.book.now in
-    let sound = c.requires.sound.0 in
-    let small = asked-small (table_of b) (sound-below b c.args.offset sound) sound.few (sound-atoms b c.args.offset sound) c.args.root false c.requires.sound.1 in
-    let l = c.strip-l in
-    let x = c.ask-x.ensures in
-    let w = c.write.ensures in
-    (begin_does l.result (table_of b) c.args.root c.start.ensures (record { small = small; is = l.ensures.0 }) x.0 w c.one.ensures, indexed_written w x.1)
+module _ (c : After-start) where
+  part : Part c.strip-l.result (signed (nodes_in c.args.book.now) c.args.root false)
+  part =
+      let k = c.args.book.now in
+      record {
+        small = asked-small (nodes_in k) (sound-below k.table.bytes.now k.table.offset k.table.sound) k.table.sound.few (sound-atoms k.table.bytes.now k.table.offset k.table.sound) c.args.root false (omega (arith, k.whole, c.requires.root));
+        is = c.strip-l.ensures.0;
+      }
+
+  begun : counted c.start.result ≡ at_start
+  begun = let e = c.start.ensures in λ i. record { states = e.0 i; variables = e.1 i; clauses = e.2 i; over = 0 }
+
+pub returns-in_err-x-clause-does : goal.returns-in_err-x-clause-does
+returns-in_err-x-clause-does c =
+    let s = (goal.at.returns-in_err-x-clause-does c).After-start in
+    let x = c.in_err-x.ensures.asks in
+    rw (handed c.from_residual.result _ c.from_residual.ensures.0 c.from_residual.ensures.1)
+    (begin_does c.strip-l.result (nodes_in c.args.book.now) c.args.root (begun s) (part s) x (write-over _ _ _ x.next.room (λ q. omega arith)) refl)
+
+pub returns-clause-does : goal.returns-clause-does
+returns-clause-does c =
+    let s = (goal.at.returns-clause-does c).After-start in
+    begin_does c.strip-l.result (nodes_in c.args.book.now) c.args.root (begun s) (part s) c.in_ok-x.ensures.asks c.write.ensures c.one.ensures

@@ -1,7 +1,7 @@
 -- The invariant: the first i clause numbers are linked.
 use mathlib.Core.Path.{◌≡◌}
 use mathlib.Core.List.{List}
-use Prim.Native.Nat.{ℕ, ◌-◌, ◌≤◌}
+use Prim.Native.Nat.{ℕ, ◌≤◌}
 use lib.ListN.{length}
 use lib.IntN.{ℤ}
 use Rattle.propagation.specs.Links.{Linked}
@@ -14,6 +14,3 @@ pub record Way (cl : List ℤ) (v : ℕ) (L₀ L : List ℕ) (i : ℕ) : Type 0 
 
 abbrev pub invariant-loop-i : goal.invariant-loop-i
 invariant-loop-i l = Way l.clauses l.variables l.initial.links l.links l.i
-
-abbrev pub decreases-loop-i : goal.decreases-loop-i
-decreases-loop-i l = length l.clauses - l.i

@@ -1,17 +1,24 @@
--- A state, an asking and a clause.
-use Rattle.rules.proofs.Moving.{indexed_made, indexed_written}
+use native.Mathlib.Omega.{arith}
+use mathlib.Core.Path.{refl}
+use Rattle.encoding.proofs.Steps.{write-over}
+use Rattle.rules.proofs.Moving.{handed}
 use Rattle.rules.proofs.Doing.{existential_over, existential_does}
 use Rattle.rules.proofs.classes.existential.Goals as goal
 
-pub returns-then-d-ne0 : goal.returns-then-d-ne0
-returns-then-d-ne0 c =
+pub returns-in_err-d-clause-does : goal.returns-in_err-d-clause-does
+returns-in_err-d-clause-does c =
     let a = c.args in
-    let m = c.make-d.ensures in
-    (existential_over m a.l a.words.now a.clauses.now c.if-d-ne0.true, indexed_made m c.requires.indexed)
+    rw (handed c.from_residual.result _ c.from_residual.ensures.0 c.from_residual.ensures.1)
+    (existential_over c.in_err-d.ensures a.l a.draft.now.index.now.words.now a.draft.now.clauses.now (λ q. omega arith))
 
-pub returns : goal.returns
-returns c =
+pub returns-in_err-x-clause-does : goal.returns-in_err-x-clause-does
+returns-in_err-x-clause-does c =
     let a = c.args in
-    let x = c.ask-x.ensures in
-    let w = c.write.ensures in
-    (existential_does c.make-d.ensures a.l a.words.now a.clauses.now c.if-d-ne0.false x.0 w c.two.ensures, indexed_written w x.1)
+    let x = c.in_err-x.ensures.asks in
+    rw (handed c.from_residual-in_err-x.result _ c.from_residual-in_err-x.ensures.0 c.from_residual-in_err-x.ensures.1)
+    (existential_does c.in_ok-d.ensures a.l a.draft.now.index.now.words.now a.draft.now.clauses.now refl x (write-over _ _ _ x.next.room (λ q. omega arith)) refl)
+
+pub returns-clause-does : goal.returns-clause-does
+returns-clause-does c =
+    let a = c.args in
+    existential_does c.in_ok-d.ensures a.l a.draft.now.index.now.words.now a.draft.now.clauses.now refl c.in_ok-x.ensures.asks c.write.ensures c.two.ensures

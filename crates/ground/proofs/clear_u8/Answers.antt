@@ -1,6 +1,0 @@
-use native.Mathlib.Omega.{arith}
-use Rattle.ground.proofs.Buffers.{clear_end}
-use Rattle.ground.proofs.clear_u8.Goals as goal
-
-pub returns : goal.returns
-returns c = clear_end 0 c.args.n c.args.s.now c.loop-i.i c.loop-i.s c.requires (omega arith) c.loop-i.invariant
