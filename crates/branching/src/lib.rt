@@ -34,10 +34,10 @@ impl From<Outcome> for u32 {
     }
 }
 
-// Searches `many` clauses within `budget` nodes. What the values and the working space hold at entry does not matter; the working space, in which the clauses
-// of each literal are linked, is zero afterwards. Besides the nodes it costs two passes over the values, two over the working space and one over the clause
-// numbers; and on the stack the table of truths, 8,192 bytes, in which at first every literal is unassigned and the unused place false, and the trail with the
-// number of unmet clauses at each first branch, 8,190 bytes each.
+// Searches `many` clauses within `budget` nodes; as many as the numbers have threes, but the caller knows it without a division. What the values and the
+// working space hold at entry does not matter; the working space, in which the clauses of each literal are linked, is zero afterwards. Besides the nodes it
+// costs two passes over the values, two over the working space and one over the clause numbers; and on the stack the table of truths, 8,192 bytes, in which at
+// first every literal is unassigned and the unused place false, and the trail with the number of unmet clauses at each first branch, 8,190 bytes each.
 pub fn search(
     clauses: &[i16],
     many: usize,

@@ -16,7 +16,7 @@ ghost use Rattle.build.specs.Steps.{Cleared};
 use book::{Book, NoAnswer};
 use encoding::Build;
 use ground::clear;
-use records::State;
+use records::{State, UNUSED};
 use states::run;
 
 // The build is over a limit.
@@ -30,13 +30,6 @@ impl From<Oversized> for NoAnswer {
         NoAnswer::Oversized
     }
 }
-
-// An unused place of the state records.
-const UNUSED: State = State {
-    parent: 0,
-    relation: 0,
-    maker: 0,
-};
 
 // Builds the clauses of node `root`: the build stands in the buffers, with these totals; or it is over a limit (15).
 pub fn fill(

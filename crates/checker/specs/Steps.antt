@@ -1,5 +1,5 @@
 -- What the functions of the check promise one another: a build searched. Assumes nothing.
-use Rattle.std.specs.Prelude.{ℕ, ◌*◌, ◌≤◌, ◌<◌, ◌≡◌, cond, List, ◌++◌, ℤ, length, take, drop, replicate}
+use Rattle.std.specs.Prelude.{ℕ, ◌*◌, ◌≤◌, ◌≡◌, cond, List, ◌++◌, ℤ, length, take, drop, replicate}
 use Rattle.encoding.specs.declared.counts.Build.{Build}
 use Rattle.clauses.specs.Clause.{triples}
 use Rattle.search.specs.Search.{Run, run, nodes, finishes, left}

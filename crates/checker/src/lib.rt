@@ -16,13 +16,13 @@ use book::{Book, NoAnswer};
 use branching::Outcome;
 use encoding::Build;
 pub use numbers::{count, number, place, totals};
-use records::State;
+use records::{State, UNUSED};
 use structure::Structure;
 
 // The numbers of working space that a check is lent: the search's for as many variables and clauses as a build may have.
 pub const WORK: usize = 2 * Build::VARIABLES + 1 + 3 * Build::CLAUSES;
 
-// The buffers that a check is lent: state records, variable words, clause numbers, values and working space.
+// The buffers that a check is lent: state records, variable words, clause numbers, values and working space. Neither copied nor compared.
 #[derive(Drop)]
 pub struct Lent<'a> {
     pub states: &'a mut [State],
@@ -64,13 +64,8 @@ impl Buffers {
     pub fn new() -> Buffers
         ensures { owned result ≡ own }
     {
-        let unused = State {
-            parent: 0,
-            relation: 0,
-            maker: 0,
-        };
         Buffers {
-            states: [unused; Build::STATES],
+            states: [UNUSED; Build::STATES],
             words: [0; Build::VARIABLES],
             clauses: [0; 3 * Build::CLAUSES],
             values: [0; Build::VARIABLES],

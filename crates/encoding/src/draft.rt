@@ -1,4 +1,6 @@
-// What a build writes beside its states.
+// What a build writes beside its states. The counts stay beside it, by value, as document 01 has them pass from one asking to the next: so what joins both,
+// that the index is that of so many words (`Holds`), stands in the clauses. `SameDraft` is what every call says besides of a struct of references: that they
+// are still the same.
 ghost use Rattle.std.specs.Prelude.{◌*◌, ◌≤◌, length};
 ghost use Rattle.encoding.specs.Limits.{max_clauses};
 

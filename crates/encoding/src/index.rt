@@ -1,4 +1,5 @@
 // The words, one for each variable, and how they are found again: by their chain, and by their state.
+// Lent lists, so neither copied nor compared.
 ghost use Rattle.std.specs.Prelude.{◌≡◌, ◌+◌, ◌*◌, ◌≤◌, length};
 ghost use Rattle.encoding.specs.Limits.{max_states, max_variables};
 ghost use Rattle.encoding.specs.Index.{chains};

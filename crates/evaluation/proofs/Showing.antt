@@ -5,6 +5,7 @@ use native.Mathlib.Omega.{arith}
 use native.Mathlib.Decide.{ℕ_discrete}
 use native.Mathlib.Nat.{add-zero}
 use mathlib.Core.Path.{◌≡◌, refl, sym, ap, ap₂, ◌∙◌}
+use mathlib.Core.Logic.{◌⊎◌, inl, inr}
 use mathlib.Core.Bool.{Bool, true, false, not, ◌&&◌, ◌||◌, cond}
 use mathlib.Core.List.{List}
 use lib.Dec.{T, eqb}
@@ -26,7 +27,7 @@ use Rattle.records.specs.declared.State.{State}
 use Rattle.records.specs.Table.{row_at}
 use Rattle.records.proofs.Tables.{length-numbers_of}
 use Rattle.structure.specs.Structure.{edge, read_back}
-use Rattle.structure.specs.Evaluation.{records_in, max_atoms, max_nodes}
+use Rattle.structure.specs.Evaluation.{records_in, max_atoms}
 use Rattle.structure.specs.Held.{numbers, lies_in}
 use Rattle.structure.specs.Marks.{on}
 use Rattle.structure.specs.Rows.{Elsewhere, Written, Scattered, reached, atom_row, put_in}
@@ -37,7 +38,7 @@ use Rattle.structure.proofs.Recorded.{record_at_lem, length-records}
 use Rattle.structure.proofs.Written.{elsewhere_both}
 use Rattle.structure.proofs.Scatter.{same_tests, some_ext, some_shift, reached-yes, yes-reached, scatter_none, scatter_more, scatter_away}
 use Rattle.evaluation.specs.declared.rows.Modal.{Modal}
-use Rattle.evaluation.specs.Nodes.{first_row, second_row, node_row, joined, turned, counts, parent_reaches, reaches, Row, Shown, Room, Evaluating}
+use Rattle.evaluation.specs.Nodes.{first_row, second_row, node_row, joined, is_diamond, turned, counts, parent_reaches, reaches, Row, Shown, Room, Evaluating}
 
 -- ---- a box or a diamond
 module _ (st w : List ℕ) (r child : ℕ) (diamond : Bool) (base n : ℕ) where
@@ -79,26 +80,6 @@ module _ (s : Structure) (w : List ℕ) (m : Modal) (base : ℕ) where
       rw (z, y) (spread_turn (numbers s) w m.relation m.child m.diamond base s.states_count a b l j h old mark d.parent e (ap (λ (z : State). z.parent) q) t)
 
 -- ---- a node's row
--- a node's numbers are below a book's most nodes
-pub bounded_within : (i : ℕ) (x : Node) → Bounded i x → i < max_nodes → Bounded max_nodes x
-bounded_within i (Atom a) b h = b
-bounded_within i (Not c) b h = omega arith
-bounded_within i (And c d) b h = (omega (arith, b), omega (arith, b))
-bounded_within i (Or c d) b h = (omega (arith, b), omega (arith, b))
-bounded_within i (Implies c d) b h = (omega (arith, b), omega (arith, b))
-bounded_within i (Box r c) b h = (b.0, omega (arith, b))
-bounded_within i (Diamond r c) b h = (b.0, omega (arith, b))
-
--- the rows that it is made from lie before it
-pub rows_before : (i : ℕ) (x : Node) → Bounded i x → (first_row x + max_states ≤ node_row i) × (second_row x + max_states ≤ node_row i)
-rows_before i (Atom a) b = (omega arith, omega arith)
-rows_before i (Not c) b = (omega arith, omega arith)
-rows_before i (And c d) b = (omega (arith, b), omega (arith, b))
-rows_before i (Or c d) b = (omega (arith, b), omega (arith, b))
-rows_before i (Implies c d) b = (omega (arith, b), omega (arith, b))
-rows_before i (Box r c) b = (omega (arith, b), omega (arith, b))
-rows_before i (Diamond r c) b = (omega (arith, b), omega (arith, b))
-
 module _ (F : Finite) (ns : List table.Node) (i n : ℕ) (few : n ≤ max_states) where
   -- what is written from the row of node i on leaves the rows before it
   pub shown-kept : (high : ℕ) (old new : List ℕ) → Elsewhere (node_row i) high old new → Shown F ns i n old → Shown F ns i n new
@@ -246,11 +227,10 @@ module _ (t : Table) (s : Structure) (i : ℕ) (old : List ℕ) (room : Room s o
         ∙ checks (shown-kept F ns i n room.few (node_row i + n) old mid begun.rest y) j h
         ∙ ap bit (step j))
 
-    pub box_node : x ≡ Box r c → Written (node_row i) n (λ j. bit true) old mid → Scattered (bit false) (parent_reaches (numbers s) mid r (node_row c) false (node_row i) n) n mid new → Evaluating ns s i (i + 1) old new
-    box_node e begun spread = spread_more false begun spread (λ y j h. rw e (box_checks (numbers s) (take s.variables_count s.words.now) (take s.variables_count s.values.now) ns i n mid whole y r c (rw e at bounds).1 j h))
-
-    pub diamond_node : x ≡ Diamond r c → Written (node_row i) n (λ j. bit false) old mid → Scattered (bit true) (parent_reaches (numbers s) mid r (node_row c) true (node_row i) n) n mid new → Evaluating ns s i (i + 1) old new
-    diamond_node e begun spread = spread_more true begun spread (λ y j h. rw e (diamond_checks (numbers s) (take s.variables_count s.words.now) (take s.variables_count s.values.now) ns i n mid whole y r c (rw e at bounds).1 j h))
+    pub modal_node : (d : Bool) → d ≡ is_diamond x → (x ≡ Box r c) ⊎ (x ≡ Diamond r c) → Written (node_row i) n (λ j. bit (not d)) old mid
+        → Scattered (bit d) (parent_reaches (numbers s) mid r (node_row c) d (node_row i) n) n mid new → Evaluating ns s i (i + 1) old new
+    modal_node d q (inl e) begun spread = spread_more d begun spread (λ y j h. rw (q ∙ ap is_diamond e, e) (box_checks (numbers s) (take s.variables_count s.words.now) (take s.variables_count s.values.now) ns i n mid whole y r c (rw e at bounds).1 j h))
+    modal_node d q (inr e) begun spread = spread_more d begun spread (λ y j h. rw (q ∙ ap is_diamond e, e) (diamond_checks (numbers s) (take s.variables_count s.words.now) (take s.variables_count s.values.now) ns i n mid whole y r c (rw e at bounds).1 j h))
 
 -- the root's mark at state 1
 pub root-shown : (F : Finite) (ns : List table.Node) (k n root : ℕ) (w : List ℕ) → Shown F ns k n w → root < k → 1 ≤ n → on w (node_row root) ≡ evaluate F ns root 1

@@ -52,6 +52,16 @@ joined (Implies c d) a b = not a || b
 joined (Box r c) a b = a
 joined (Diamond r c) a b = a
 
+-- of a box or a diamond, which of them
+abbrev pub is_diamond : Node → Bool
+is_diamond (Atom a) = false
+is_diamond (Not c) = false
+is_diamond (And c d) = false
+is_diamond (Or c d) = false
+is_diamond (Implies c d) = false
+is_diamond (Box r c) = false
+is_diamond (Diamond r c) = true
+
 -- as it is for a diamond, turned for a box
 unfoldable pub turned : Bool → Bool → Bool
 turned true b = b

@@ -20,7 +20,7 @@ pub const NODES: usize = 512;
 // The bytes of working space that an evaluation is lent: a mark for each state, in a row for the lives, for each atom and for each node.
 pub const WORK: usize = (1 + ATOMS + NODES) * Build::STATES;
 
-// Evaluates the book at state 1 of the structure. However nodes are shared, it makes at most two passes over the n states for each node, one over the
+// Evaluates the book at state 1 of the structure. However nodes are shared, it makes at most two passes over the states for each node, one over the
 // records and one over the words, and clears the working space.
 #[tactic(auto, using(crate::proofs::Answering::room))]
 pub fn evaluate(book: &[u8], structure: &Structure, work: &mut [u8]) -> Result<bool, NoAnswer>

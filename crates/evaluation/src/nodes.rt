@@ -1,4 +1,5 @@
 // A book's nodes in index order, each a row of the working space over the states: a node is evaluated once, however often it is shared.
+// What is read, a structure, and what is written, the working space, stay two: a struct of both would be no plainer.
 ghost use Rattle.std.specs.Prelude.{◌≡◌, ◌+◌, ◌<◌, length};
 ghost use Rattle.ground.specs.Buffer.{cleared};
 ghost use Rattle.logic.specs.Finite as logic;
@@ -8,13 +9,13 @@ ghost use Rattle.structure.specs.Held.{lies_in};
 ghost use Rattle.evaluation.specs.Nodes.{Room, Evaluating, Prepared};
 
 use crate::WORK;
-use crate::rows::{Modal, begin, connect, node_row, spread};
+use crate::rows::{Modal, begin, connect, is_diamond, node_row, spread};
 use book::{Book, Node, Table};
 use encoding::Build;
 use ground::clear;
 use structure::{ATOMS, Structure, marked};
 
-// Writes the row of node i, those below it written. At most two passes over the n states.
+// Writes the row of node i, those below it written. At most two passes over the states.
 fn write_node(table: &Table, structure: &Structure, work: &mut [u8], i: usize)
     requires room { Room structure.now work.old }
     requires inside { i < length (nodes_of table.now) }
@@ -24,22 +25,14 @@ fn write_node(table: &Table, structure: &Structure, work: &mut [u8], i: usize)
     let base = node_row(i);
     let node = table.node(i);
     match node {
-        Node::Box(relation, child) => {
+        Node::Box(relation, child) | Node::Diamond(relation, child) => {
+            let diamond = is_diamond(node);
             let modal = Modal {
-                diamond: false,
+                diamond,
                 relation,
                 child: node_row(child),
             };
-            begin(work, base, n, true);
-            spread(structure, work, modal, base);
-        }
-        Node::Diamond(relation, child) => {
-            let modal = Modal {
-                diamond: true,
-                relation,
-                child: node_row(child),
-            };
-            begin(work, base, n, false);
+            begin(work, base, n, !diamond);
             spread(structure, work, modal, base);
         }
         _ => connect(work, node, i, n),

@@ -83,6 +83,13 @@ pub fn connect(work: &mut [u8], node: Node, i: usize, n: usize)
     }
 }
 
+// Whether a node is a diamond: of a box or a diamond, which of them.
+pub fn is_diamond(node: Node) -> bool
+    ensures { result ≡ def.is_diamond node }
+{
+    matches!(node, Node::Diamond(..))
+}
+
 // Writes the row at base with one mark for all n states: a box begins with all of them, a diamond with none.
 pub fn begin(work: &mut [u8], base: usize, n: usize, mark: bool)
     requires { base + n ≤ length work.old }
@@ -109,7 +116,7 @@ fn counts(structure: &Structure, work: &[u8], modal: Modal, j: usize) -> bool
     marked(work, j) && same && turned(modal.diamond, marked(work, modal.child + j))
 }
 
-// Writes the diamond's or box's mark at the parent of each state that counts, in the row that begins at base. One pass over the n states.
+// Writes the diamond's or box's mark at the parent of each state that counts, in the row that begins at base. One pass over the states.
 #[tactic(auto, using(crate::proofs::Showing::spread_next))]
 pub fn spread(structure: &Structure, work: &mut [u8], modal: Modal, base: usize)
     requires before { (structure.now.states_count ≤ base) × (modal.child + structure.now.states_count ≤ base) }

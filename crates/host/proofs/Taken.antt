@@ -19,7 +19,7 @@ use Rattle.records.specs.Table.{numbers_of}
 use Rattle.records.proofs.Tables.{length-numbers_of}
 use Rattle.host.specs.Called.{Judged}
 
--- how many records are read of k, and what `gather` requires of that
+-- how many records are read of k
 pub most_read : (k : ℕ) → (min max_states k ≤ k) × (3 * min max_states k ≤ 3 * max_states)
 most_read k = (omega arith, omega arith)
 

@@ -1,4 +1,5 @@
-// The assignment of a node: the marks, the table of truths that shows them, the trail that notes them in order, and how many clauses are unmet.
+// The assignment of a node: the marks, the table of truths that shows them, the trail that notes them in order, and how many clauses are unmet. Lent lists, so
+// neither copied nor compared; that they are still the same after a call is `Keeps`.
 ghost use Rattle.std.specs.Prelude.{◌≡◌, ◌+◌, ◌≤◌, ◌<◌, length, get_or, set};
 ghost use Rattle.search.specs.Search.{zeros};
 ghost use Rattle.propagation.specs.Judging.{Mirrors};

@@ -1,5 +1,6 @@
 // What a clause says, read off the table of truths: nothing, that it fails, or that a literal is forced; and whether it is met.
 // Signed numbers are taken apart here; everything else in this crate speaks of places, slots and marks.
+// Marks stay numbers: they are the bytes of the search's definition, and of the values that a caller gets.
 ghost use Rattle.std.specs.Prelude.{◌≡◌, ◌+◌, ◌*◌, ◌≤◌, ◌<◌, length, get_or, pos, nat_abs};
 ghost use Rattle.search.specs.Search as def;
 ghost use Rattle.propagation.specs.Judging.{Weighs, Judges, JudgesMet, Table};

@@ -1,4 +1,4 @@
-// The clauses that hold a literal, found on the way down its links.
+// The clauses that hold a literal, found on the way down its links. A link is a place, 0 at the end: fixed memory, an Option of it takes twice the room.
 ghost use Rattle.std.specs.Prelude.{◌≡◌, ◌≤◌, ◌*◌, length, get_or};
 
 use crate::formula::Formula;

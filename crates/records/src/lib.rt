@@ -14,6 +14,13 @@ pub struct State {
     pub maker: u16,
 }
 
+// An unused place of the table: all 0.
+pub const UNUSED: State = State {
+    parent: 0,
+    relation: 0,
+    maker: 0,
+};
+
 // The record at place i of the numbers.
 pub fn row_of(numbers: &[u16], i: usize) -> State
     requires { 3 * i + 3 ≤ length numbers.now }

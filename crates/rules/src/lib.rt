@@ -1,4 +1,6 @@
 // Document 01, "The build": what is done to a variable. The three rules at one place v: what a phase does to the variable of state s that stands there.
+// A call takes what 01 names: the states, a slice of records, which a build lends whole; the draft; the counts by value; the state, the variable, its relation and
+// parts. That the parents are below and the numbers low holds in the middle of a build alone, so it stands in the clauses.
 #![tactic(auto)]
 
 mod classes;
@@ -29,6 +31,7 @@ fn role(book: &Book, index: &Index, v: usize) -> Class
 }
 
 // Phase 1: a conjunctive or disjunctive variable.
+#[tactic(auto, using(crate::proofs::Seeing::tame_of), unfolding(signed::specs::Asking::Tame))]
 pub fn rule1(book: &Book, draft: &mut Draft, c: Counts, s: usize, v: usize) -> Result<Counts, Over>
     requires room { (s ≤ c.states) × (v < c.variables) }
     requires here { get_or (words_in draft.old) v 0 / 2048 ≡ s }
@@ -45,6 +48,7 @@ pub fn rule1(book: &Book, draft: &mut Draft, c: Counts, s: usize, v: usize) -> R
 }
 
 // Phase 2: an existential variable.
+#[tactic(auto, using(crate::proofs::Seeing::tame_of), unfolding(signed::specs::Asking::Tame))]
 pub fn rule2(
     book: &Book,
     states: &mut [State],
@@ -71,6 +75,7 @@ pub fn rule2(
 
 // Phase 3: a universal variable. It reads the states, where phase 2 makes some, so that one function for both would be no plainer. `before` is how many
 // states there were before phase 2.
+#[tactic(auto, using(crate::proofs::Seeing::tame_of), unfolding(signed::specs::Asking::Tame))]
 pub fn rule3(
     book: &Book,
     states: &[State],

@@ -1,4 +1,4 @@
-// A signed formula's key and the class of a key, read from a rulebook's bytes.
+// A signed formula's key and the class of a key, read from an accepted book's nodes.
 #![tactic(auto)]
 
 ghost use Rattle.std.specs.Prelude.{◌≡◌, ◌<◌, length};
@@ -9,7 +9,7 @@ ghost use Rattle.signed.specs.Asking.{ask_of, class_of, Small, Tame, is_conjunct
 use book::{Book, Node, Table};
 
 // The key of the first atom.
-const FIRST_ATOM: usize = 1024;
+pub const FIRST_ATOM: usize = 1024;
 
 #[derive(Clone, Copy, PartialEq, Eq, Debug)]
 pub struct Ask {
@@ -48,7 +48,7 @@ pub fn strip(table: &Table, node: usize, minus: bool) -> Ask
             _ => {
                 return Ask {
                     minus: false,
-                    key: 2 * i + sign as usize,
+                    key: 2 * i + usize::from(sign),
                 };
             }
         }

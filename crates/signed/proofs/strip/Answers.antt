@@ -15,4 +15,4 @@ returns-in-Atom c =
 pub returns-in_default : goal.returns-in_default
 returns-in_default c =
     let e = strip_solid c.args.table.now c.nots.i c.nots.sign _ c.in_default.not-Atom c.in_default.not-Not c.node.ensures.is ∙ c.nots.invariant.1 in
-    (e, table-low c.args.table.now c.args.node c.args.minus c.requires _ e)
+    rw c.from.ensures (e, table-low c.args.table.now c.args.node c.args.minus c.requires _ e)

@@ -2,91 +2,79 @@ use Prim.Native.Nat.{◌+◌}
 use native.Mathlib.Omega.{arith}
 use mathlib.Core.Path.{ap}
 use Rattle.book.specs.Held.{nodes_in}
-use Rattle.encoding.specs.Build.{plan, scan, by, rule1, variables#}
+use Rattle.encoding.specs.Build.{plan, by, rule1, variables#}
 use Rattle.encoding.specs.Shows.{counted}
 use Rattle.encoding.proofs.Indexing.{draft-refl, draft_then}
 use Rattle.encoding.proofs.Steps.{roomy}
-use Rattle.rules.proofs.Moving.{stays-refl, stays_then, scan_step, handed}
-use Rattle.build.proofs.Looping.{begins1, turns1, due_begins, due-turns, due-more, follows, upto, starts, stood, stood_due, next-one, upto_end, settles, settles-over}
+use Rattle.rules.proofs.Moving.{stays-refl, stays_then, handed}
+use Rattle.build.proofs.Looping.{settles, settles-over}
+use Rattle.build.proofs.Walking.{Gone, upto, walks1, walk_begins, walk_goes, walk_one, walk_does, walk_end, shown_first, due_first, due_one, due_next}
 use Rattle.build.proofs.phases.phase1.Goals as goal
+use Rattle.build.proofs.phases.phase1.Goals.{After-next_of-next}
+
+gone : (c : After-next_of-next) → Gone c.in_ok-d.d.variables c.args.s c.in-Some.v (counted c.in_ok-d.d) c.rule1.new.draft.index.now.words.now c.next_of-next.result
+gone c =
+    let y = c.in_ok-d.ensures in
+    let n = c.in_ok-d.d.variables in
+    walk_goes n c.next_of-next.result c.loop-next.invariant.3 c.in-Some.is y.does.stays.next y.does.stays.next.variables (omega arith) (c.next_of-next.ensures _ n (omega arith) y.indexed.listed)
 
 pub loop-next-init : goal.loop-next-init
 loop-next-init c =
     let a = c.args in
-    let room = (roomy c.args.c) in
-    let f = starts a.c.variables a.s a.draft.now.index.now.words.now c.first_of-next.result (c.first_of-next.ensures a.draft.now.index.now.words.now c.requires.indexed.listed) in (
+    let room = roomy c.args.c in
+    let w = walk_begins a.c.variables a.s (counted a.c) a.draft.now.index.now.words.now (omega arith) c.first_of-next.result (c.first_of-next.ensures _ c.requires.indexed.listed) in (
       stays-refl (counted a.c) a.draft.now.index.now.words.now room,
       draft-refl a.draft.now,
       c.requires.indexed,
-      f.0,
-      f.2,
-      λ root o st B sh.
-          let φ = plan (nodes_in a.book.now) root in
-          (begins1 φ B room f.0 f.1 sh, due_begins φ a.s (upto a.c.variables c.first_of-next.result) B f.0 sh),
+      w.1,
+      λ root st o B sh. shown_first walks1 (plan (nodes_in a.book.now) root) B room w sh,
+      λ root st o B sh. due_first walks1 (plan (nodes_in a.book.now) root) B w.1 sh,
+    )
+
+pub next_of-next-requires : goal.next_of-next-requires
+next_of-next-requires c = (omega (arith, (c.loop-next.invariant.3.stands c.in-Some.v c.in-Some.is).0, c.in_ok-d.ensures.does.stays.next.variables), c.in_ok-d.d.few_variables)
+
+pub loop-next-smaller : goal.loop-next-smaller
+loop-next-smaller c =
+    let g = gone (goal.at.loop-next-smaller c).After-next_of-next in
+    omega (arith, g.on, g.walk.low, g.room.variables, ap (upto c.loop-next.d.variables) c.in-Some.is)
+
+pub loop-next-preserved : goal.loop-next-preserved
+loop-next-preserved c =
+    let i = c.loop-next.invariant in
+    let y = c.in_ok-d.ensures in
+    let ns = nodes_in c.args.book.now in
+    let g = gone (goal.at.loop-next-preserved c).After-next_of-next in (
+      stays_then i.0 y.does.stays,
+      draft_then i.1 y.same,
+      y.indexed,
+      g.walk,
+      λ root st. walk_does walks1 (plan ns root) i.3 c.in-Some.is (y.does.does root st) (i.4 root st) g,
+      λ root st o B sh. due_next walks1 (plan ns root) i.3 c.in-Some.is (y.does.does root st) (i.4 root st) g o B sh (i.5 root st o B sh),
     )
 
 pub returns-in_err-d-clause-does : goal.returns-in_err-d-clause-does
 returns-in_err-d-clause-does c =
-    let a = c.args in
-    let l = c.loop-next in
-    let v = c.in-Some.v in
-    let s = l.invariant.4 c.in-Some.v c.in-Some.is in
+    let i = c.loop-next.invariant in
     let y = c.in_err-d.ensures.does in
+    let v = c.in-Some.v in
     rw (handed c.from_residual.result _ c.from_residual.ensures.0 c.from_residual.ensures.1)
     (record {
-      stays = stays_then l.invariant.0 y.stays;
+      stays = stays_then i.0 y.stays;
       does = λ root o st B R se sh.
-          let i = l.invariant.5 root o st B sh in
-          let here = stood (by (plan (nodes_in a.book.now) root) (rule1 (plan (nodes_in a.book.now) root)) a.s) l.d.variables B c.in-Some.is i.0 in
-          let due = stood_due (by (plan (nodes_in a.book.now) root) (rule1 (plan (nodes_in a.book.now) root)) a.s) l.d.variables B c.in-Some.is i.1 in
-          let f = by (plan (nodes_in a.book.now) root) (rule1 (plan (nodes_in a.book.now) root)) a.s in
-          settles-over f variables# (v + 1) B R se (due-more f variables# v B due (omega (arith, s.0, here.low_variables)))
-          (scan_step f v o _ _ B (y.does root st o (scan f v 0 B) here)) (λ q. omega arith);
+          let φ = plan (nodes_in c.args.book.now) root in
+          let due = due_one walks1 φ i.3 c.in-Some.is (y.does root st) (i.4 root st) o B sh (i.5 root st o B sh) in
+          settles-over (by φ (rule1 φ) c.args.s) variables# (v + 1) B R se due (walk_one walks1 φ i.3 c.in-Some.is (y.does root st) (i.4 root st) o B sh) (λ q. omega arith);
     })
-
-pub loop-next-smaller : goal.loop-next-smaller
-loop-next-smaller c =
-    let v = c.in-Some.v in
-    let y = c.in_ok-d.ensures in
-    let s = c.loop-next.invariant.4 v c.in-Some.is in
-    let f = next-one v c.in_ok-d.d.variables _ _ c.next_of-next.result (omega (arith, s.0, y.does.stays.next.variables)) (c.next_of-next.ensures _ c.in_ok-d.d.variables (omega arith) y.indexed.listed) in
-    omega (arith, f.0, f.1, y.does.stays.next.room.variables, ap (upto c.loop-next.d.variables) c.in-Some.is)
-
-pub loop-next-preserved : goal.loop-next-preserved
-loop-next-preserved c =
-    let a = c.args in
-    let l = c.loop-next in
-    let v = c.in-Some.v in
-    let s = l.invariant.4 v c.in-Some.is in
-    let y = c.in_ok-d.ensures in
-    let next = y.does.stays.next in
-    let n = c.in_ok-d.d.variables in
-    let f = follows v n c.next_of-next.result (omega (arith, s.0, next.variables)) next s.0 s.1 (c.next_of-next.ensures _ n (omega arith) y.indexed.listed) in (
-      stays_then l.invariant.0 y.does.stays,
-      draft_then l.invariant.1 y.same,
-      y.indexed,
-      f.1,
-      f.3,
-      λ root o st B sh.
-          let i = l.invariant.5 root o st B sh in
-          let φ = plan (nodes_in a.book.now) root in
-          let here = stood (by φ (rule1 φ) a.s) l.d.variables B c.in-Some.is i.0 in
-          let due = stood_due (by φ (rule1 φ) a.s) l.d.variables B c.in-Some.is i.1 in
-          let sh' = y.does.does root st o (scan (by φ (rule1 φ) a.s) v 0 B) here in
-          (turns1 φ B next.room f.1 f.0 f.2 sh', due-turns φ a.s v (upto n c.next_of-next.result) B f.1 due (omega (arith, s.0, here.low_variables)) sh'),
-    )
-
-pub next_of-next-requires : goal.next_of-next-requires
-next_of-next-requires c = (omega (arith, (c.loop-next.invariant.4 c.in-Some.v c.in-Some.is).0, c.in_ok-d.ensures.does.stays.next.variables), c.in_ok-d.d.few_variables)
 
 pub returns-clause-does : goal.returns-clause-does
 returns-clause-does c =
-    let a = c.args in
     let l = c.loop-next in
+    let i = l.invariant in
     record {
-      stays = l.invariant.0;
+      stays = i.0;
       does = λ root o st B R se sh.
-          let i = l.invariant.5 root o st B sh in
-          let φ = plan (nodes_in a.book.now) root in
-          settles (by φ (rule1 φ) a.s) variables# (upto l.d.variables l.next) B R se i.1 i.0 l.d.variables (omega (arith, upto_end l.d.variables l.next c.in_default.not-Some)) (λ f. (i.0.exact f).variables);
+          let φ = plan (nodes_in c.args.book.now) root in
+          let x = i.4 root st o B sh in
+          settles (by φ (rule1 φ) c.args.s) variables# (upto l.d.variables l.next) B R se (i.5 root st o B sh) x l.d.variables (omega (arith, walk_end l.d.variables l.next c.in_default.not-Some)) (λ f. (x.exact f).variables);
     }

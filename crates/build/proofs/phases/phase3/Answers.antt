@@ -1,15 +1,21 @@
-use Prim.Native.Nat.{◌+◌}
 use native.Mathlib.Omega.{arith}
 use mathlib.Core.Path.{refl, ap}
 use Rattle.book.specs.Held.{nodes_in}
-use Rattle.encoding.specs.Build.{plan, scan, by, rule3}
+use Rattle.encoding.specs.Build.{plan, phase3, rule3}
 use Rattle.encoding.specs.Shows.{counted}
 use Rattle.encoding.proofs.Indexing.{draft-refl, draft_then}
-use Rattle.encoding.proofs.Totals.{by3_less}
 use Rattle.encoding.proofs.Steps.{roomy}
-use Rattle.rules.proofs.Moving.{stays-refl, stays_then, scan_step, scan_over, handed}
-use Rattle.build.proofs.Looping.{childless, begins3, turns3, follows, upto, starts, stood, next-one, upto_end, ends3}
+use Rattle.rules.proofs.Moving.{stays-refl, stays_then, handed}
+use Rattle.build.proofs.Looping.{childless}
+use Rattle.build.proofs.Walking.{Gone, upto, walks3, walk_begins, walk_goes, walk_does, walk_over, walk_whole, shown_first}
 use Rattle.build.proofs.phases.phase3.Goals as goal
+use Rattle.build.proofs.phases.phase3.Goals.{After-next_of-next}
+
+gone : (c : After-next_of-next) → Gone c.args.c.variables c.args.s c.in-Some.v (counted c.in_ok-d.d) c.rule3.new.draft.index.now.words.now c.next_of-next.result
+gone c =
+    let w = c.loop-next.invariant.3 in
+    let y = c.in_ok-d.ensures in
+    walk_goes c.args.c.variables c.next_of-next.result w c.in-Some.is y.does.stays.next (omega arith) (omega (arith, w.there, y.does.stays.next.variables)) (c.next_of-next.ensures _ c.in_ok-d.d.variables (omega (arith, w.there, y.does.stays.next.variables)) y.indexed.listed)
 
 pub returns-then-c-before-clause-does : goal.returns-then-c-before-clause-does
 returns-then-c-before-clause-does c = childless (roomy c.args.c) refl c.if-c-before.true c.requires.low.1
@@ -17,75 +23,53 @@ returns-then-c-before-clause-does c = childless (roomy c.args.c) refl c.if-c-bef
 pub loop-next-init : goal.loop-next-init
 loop-next-init c =
     let a = c.args in
-    let f = starts a.c.variables a.s a.draft.now.index.now.words.now c.first_of-next.result (c.first_of-next.ensures a.draft.now.index.now.words.now c.requires.indexed.listed) in (
-      f.0,
-      stays-refl (counted a.c) a.draft.now.index.now.words.now (roomy c.args.c),
+    let room = roomy c.args.c in
+    let w = walk_begins a.c.variables a.s (counted a.c) a.draft.now.index.now.words.now (omega arith) c.first_of-next.result (c.first_of-next.ensures _ c.requires.indexed.listed) in (
+      stays-refl (counted a.c) a.draft.now.index.now.words.now room,
       draft-refl a.draft.now,
       c.requires.indexed,
-      f.2,
-      λ root o B sh. begins3 (plan (nodes_in a.book.now) root) B (roomy c.args.c) f.0 f.1 sh,
+      w.1,
+      λ root o B sh. shown_first walks3 (plan (nodes_in a.book.now) root) B room w sh,
     )
-
-pub returns-in_err-d-clause-does : goal.returns-in_err-d-clause-does
-returns-in_err-d-clause-does c =
-    let a = c.args in
-    let l = c.loop-next in
-    let v = c.in-Some.v in
-    let s = l.invariant.4 c.in-Some.v c.in-Some.is in
-    let y = c.in_err-d.ensures.does in
-    rw (handed c.from_residual.result _ c.from_residual.ensures.0 c.from_residual.ensures.1)
-    (record {
-      stays = stays_then l.invariant.1 y.stays;
-      does = λ root o B sh.
-          let φ = plan (nodes_in a.book.now) root in
-          let f = by φ (rule3 φ) a.s in
-          ends3 φ a.s B refl sh refl
-          (scan_over f (by3_less φ a.s) (v + 1) a.c.variables (omega (arith, s.0)) o _ _ B (λ q. omega arith)
-          (scan_step f v o _ _ B (y.does root o (scan f v 0 B) (stood f a.c.variables B c.in-Some.is (l.invariant.5 root o B sh)))));
-    })
-
-pub loop-next-smaller : goal.loop-next-smaller
-loop-next-smaller c =
-    let l = c.loop-next in
-    let v = c.in-Some.v in
-    let y = c.in_ok-d.ensures in
-    let g = c.next_of-next.ensures _ c.in_ok-d.d.variables (omega (arith, l.invariant.1.next.variables, y.does.stays.next.variables)) y.indexed.listed in
-    let f = next-one v c.args.c.variables _ _ c.next_of-next.result (l.invariant.4 v c.in-Some.is).0 g in
-    omega (arith, f.0, f.1, ap (upto c.args.c.variables) c.in-Some.is)
-
-pub loop-next-preserved : goal.loop-next-preserved
-loop-next-preserved c =
-    let a = c.args in
-    let l = c.loop-next in
-    let v = c.in-Some.v in
-    let s = l.invariant.4 c.in-Some.v c.in-Some.is in
-    let inv = l.invariant in
-    let y = c.in_ok-d.ensures in
-    let next = y.does.stays.next in
-    let up = inv.1.next.variables in
-    let g = c.next_of-next.ensures _ c.in_ok-d.d.variables (omega (arith, up, next.variables)) y.indexed.listed in
-    let f = follows v a.c.variables c.next_of-next.result s.0 next (omega (arith, s.0, up)) s.1 g in (
-      f.1,
-      stays_then inv.1 y.does.stays,
-      draft_then inv.2 y.same,
-      y.indexed,
-      f.3,
-      λ root o B sh.
-          let φ = plan (nodes_in a.book.now) root in
-          turns3 φ B next.room (omega (arith, f.1, up, next.variables)) f.0 f.2 (y.does.does root o (scan (by φ (rule3 φ) a.s) v 0 B) (stood (by φ (rule3 φ) a.s) a.c.variables B c.in-Some.is (inv.5 root o B sh))),
-    )
-
-pub returns-clause-does : goal.returns-clause-does
-returns-clause-does c =
-    let a = c.args in
-    let inv = c.loop-next.invariant in
-    record { stays = inv.1; does = λ root o B sh. ends3 (plan (nodes_in a.book.now) root) a.s B refl sh (upto_end a.c.variables c.loop-next.next c.in_default.not-Some) (inv.5 root o B sh) }
 
 pub rule3-requires-clause-room : goal.rule3-requires-clause-room
 rule3-requires-clause-room c =
     let l = c.loop-next in
-    let s = l.invariant.4 c.in-Some.v c.in-Some.is in
-    (omega (arith, s.0, l.invariant.1.next.variables), omega (arith, c.requires.room.1, l.invariant.1.same))
+    (omega (arith, (l.invariant.3.stands c.in-Some.v c.in-Some.is).0, l.invariant.3.there), omega (arith, c.requires.room.1, l.invariant.0.same))
 
 pub next_of-next-requires : goal.next_of-next-requires
-next_of-next-requires c = ((c.loop-next.invariant.4 c.in-Some.v c.in-Some.is).0, omega (arith, c.args.c.few_variables))
+next_of-next-requires c = ((c.loop-next.invariant.3.stands c.in-Some.v c.in-Some.is).0, omega (arith, c.args.c.few_variables))
+
+pub loop-next-smaller : goal.loop-next-smaller
+loop-next-smaller c =
+    let g = gone (goal.at.loop-next-smaller c).After-next_of-next in
+    omega (arith, g.on, g.walk.low, ap (upto c.args.c.variables) c.in-Some.is)
+
+pub loop-next-preserved : goal.loop-next-preserved
+loop-next-preserved c =
+    let i = c.loop-next.invariant in
+    let y = c.in_ok-d.ensures in
+    let g = gone (goal.at.loop-next-preserved c).After-next_of-next in (
+      stays_then i.0 y.does.stays,
+      draft_then i.1 y.same,
+      y.indexed,
+      g.walk,
+      λ root. walk_does walks3 (plan (nodes_in c.args.book.now) root) i.3 c.in-Some.is (y.does.does root) (i.4 root) g,
+    )
+
+pub returns-in_err-d-clause-does : goal.returns-in_err-d-clause-does
+unfolding phase3
+returns-in_err-d-clause-does c =
+    let i = c.loop-next.invariant in
+    let y = c.in_err-d.ensures.does in
+    rw (handed c.from_residual.result _ c.from_residual.ensures.0 c.from_residual.ensures.1)
+    (record {
+      stays = stays_then i.0 y.stays;
+      does = λ root. walk_over walks3 (plan (nodes_in c.args.book.now) root) i.3 c.in-Some.is (y.does root) (i.4 root) refl refl (λ q. omega arith);
+    })
+
+pub returns-clause-does : goal.returns-clause-does
+unfolding phase3
+returns-clause-does c =
+    let i = c.loop-next.invariant in
+    record { stays = i.0; does = λ root. walk_whole rule3 (plan (nodes_in c.args.book.now) root) c.args.s refl refl c.in_default.not-Some (i.4 root) }
