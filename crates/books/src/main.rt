@@ -4,13 +4,12 @@
 
 mod run;
 
+use checker::MOST_BYTES;
 use run::tries;
 use std::env::{Env, FillError};
 use std::fs::File;
 use std::{io, str};
 use streams::read_full;
-
-const MOST: usize = 8193;
 
 fn main(rt: HostRuntime) -> io::Result<()> {
     let mut name = [0u8; 4096];
@@ -32,7 +31,7 @@ fn named(rt: &HostRuntime, name: &str) -> io::Result<()> {
         Ok(file) => file,
         Err(error) => return eprintln!(rt; "{name}: {error}"),
     };
-    let mut book = [0u8; MOST];
+    let mut book = [0u8; MOST_BYTES];
     let n = read_full(&mut file, &mut book)?;
     print!(rt; "{name}")?;
     tries(rt, &book[..n])

@@ -1,11 +1,9 @@
 // One book, checked within several budgets.
 use book::NoAnswer;
 use branching::Outcome;
-use checker::{Answer, Buffers, Lent};
+use checker::{Answer, BUDGET, Buffers, Lent};
 use encoding::Build;
 use std::io;
-
-const BUDGET: u32 = 1000000;
 
 // The answer at the program's budget; and if that finished, the answers at 0, C − 1, C, C + 1 and 2^32 − 1.
 pub fn tries(rt: &impl Print, book: &[u8]) -> io::Result<()> {

@@ -13,7 +13,7 @@ ghost use Rattle.branching.specs.Nodes.{left_by, node_of, Ran};
 use branch::walk;
 use propagation::{Assignment, Formula, link};
 
-// The answer, with its count: the nodes entered up to the verdict, or the budget. The count stands in each case, as documents and definitions have it.
+// The answer, with its count: the nodes entered up to the verdict, or the budget. The count stands in each case, as the definitions have it.
 #[derive(Clone, Copy, PartialEq, Eq, Debug)]
 pub enum Outcome {
     Yes(u32),

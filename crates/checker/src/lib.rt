@@ -22,6 +22,12 @@ use structure::Structure;
 // The numbers of working space that a check is lent: the search's for as many variables and clauses as a build may have.
 pub const WORK: usize = 2 * Build::VARIABLES + 1 + 3 * Build::CLAUSES;
 
+// The program's budget of search nodes.
+pub const BUDGET: u32 = 1000000;
+
+// The most bytes that the program reads: one more than the longest book has.
+pub const MOST_BYTES: usize = 8193;
+
 // The buffers that a check is lent: state records, variable words, clause numbers, values and working space. Neither copied nor compared.
 #[derive(Drop)]
 pub struct Lent<'a> {

@@ -13,7 +13,8 @@ pub fn readable(room: usize) -> usize
     room.min(Build::STATES)
 }
 
-// Document 01's number for each answer.
+// Document 01's number for each answer. One function with the check's `number` would be no plainer: `bool` has no `From` that gives 1 and 2, and a
+// trait for it would repeat this match.
 #[tactic(auto, unfolding(structure::specs::Evaluation::told))]
 pub fn number(answer: Result<bool, NoAnswer>) -> u32
     ensures { result ≡ (told answer).number }

@@ -1,6 +1,7 @@
-// The marks of a formula's variables, and the table of truths that shows them. All that assigns goes through `assign`, which keeps the number of unmet clauses,
-// and all that undoes through `back`, which restores it. Both take the marks, the table and the trail each by itself, as they do not ask what always holds of an
-// `Assignment`: that the trail has room, and at `back` that the number of unmet clauses is known.
+// The marks of a formula's variables, and the table of truths that shows them. All that assigns goes through `assign`, which keeps the number of unmet
+// clauses, and all that undoes through `back`, which restores it. Both take the marks and the table, and `back` the trail, each by itself, as they do not ask
+// what always holds of an `Assignment`: that the trail has room, and at `back` that the number of unmet clauses is known. Marks and table in a struct of
+// their own were tried three ways; in each the proof loses what the marks are when the loan ends.
 ghost use Rattle.std.specs.Prelude.{◌≡◌, ◌+◌, ◌≤◌, ◌<◌, List, ℕ, length, get_or, set};
 ghost use Rattle.clauses.specs.Clause.{triples};
 ghost use Rattle.propagation.specs.Links.{made};

@@ -12,16 +12,10 @@ mod show;
 
 use book::NoAnswer;
 use branching::Outcome;
-use checker::{Answer, Buffers, Lent};
+use checker::{Answer, BUDGET, Buffers, Lent, MOST_BYTES};
 use std::io;
 use std::io::{Read, Write};
 use streams::read_full;
-
-// "uses a budget of 1,000,000"
-const BUDGET: u32 = 1000000;
-
-// "reads a book from standard input (up to 8,193 bytes)": one byte more than the longest book.
-const MOST: usize = 8193;
 
 fn main(rt: HostRuntime) -> io::Result<()> {
     run(&mut rt.reader(), &mut io::writer(&rt))
@@ -33,7 +27,7 @@ fn run<R: Read, W: Write>(input: &mut R, out: &mut W) -> io::Result<()>
     ensures error { OnErr result (IfSome (R.remaining input.old) (λ xs. Begins (W.contents out.old) (W.contents out.new) (printed_for xs))) }
     ensures taken { (bs : List ℕ) × (length bs ≤ 8193) × Consumes (R.remaining input.old) (R.remaining input.new) bs }
 {
-    let mut book = [0u8; MOST];
+    let mut book = [0u8; MOST_BYTES];
     let n = read_full(input, &mut book)?;
     answer(out, &book[..n])
 }

@@ -1,5 +1,5 @@
 // The lines that the program prints.
-ghost use Rattle.std.specs.Prelude.{◌+◌, ◌++◌, OnOk, OnErr};
+ghost use Rattle.std.specs.Prelude.{◌+◌, ◌<◌, ◌≤◌, ◌++◌, OnOk, OnErr, List, ℕ};
 ghost use Rattle.std.specs.Io.KnownBytes.{Appends};
 ghost use Rattle.encoding.specs.Limits.{max_states};
 ghost use Rattle.streams.specs.Writing.{Begins};
@@ -31,7 +31,7 @@ pub fn verdict<W: Write>(out: &mut W, b: Build, word: &[u8], count: u32) -> io::
         &[b.states as u64, b.variables as u64, b.clauses as u64],
     )?;
     end(out)?;
-    begin(out, word, &[count as u64])?;
+    begin(out, word, &[u64::from(count)])?;
     end(out)
 }
 
@@ -43,25 +43,7 @@ pub fn structure<W: Write>(out: &mut W, structure: &Structure) -> io::Result<()>
 {
     let mut lives = [0u8; Build::STATES];
     structure.mark_living(&mut lives);
-    living(out, structure, &lives)
-}
-
-// The lines of the states that are marked.
-#[tactic(auto, using(crate::proofs::Written::marks_written))]
-fn living<W: Write>(
-    out: &mut W,
-    structure: &Structure,
-    lives: &[u8; Build::STATES],
-) -> io::Result<()>
-    ensures written { OnOk result (Appends (W.contents out.old) (W.contents out.new) (marked lives.now (λ i. line_at structure.now (i + 1)) max_states)) }
-    ensures error { OnErr result (Begins (W.contents out.old) (W.contents out.new) (marked lives.now (λ i. line_at structure.now (i + 1)) max_states)) }
-{
-    for s in 0..Build::STATES {
-        if marked(lives, s) {
-            state(out, structure, s + 1)?;
-        }
-    }
-    Ok(())
+    show_marked(out, &lives, structure)
 }
 
 // The line of a state: its edge and its true atoms, read from the buffers.
@@ -86,19 +68,54 @@ fn line<W: Write>(out: &mut W, s: usize, edge: Edge, atoms: &[u8; ATOMS]) -> io:
         b"state",
         &[s as u64, edge.parent as u64, edge.relation as u64],
     )?;
-    put_marked(out, atoms)?;
+    show_marked(out, atoms, &Number)?;
     end(out)
 }
 
-// The marked numbers ascending, each after a space.
+// What is written for a marked place.
+trait Shown {
+    ghost text: { Self → ℕ → List ℕ };
+
+    fn show<W: Write>(&self, out: &mut W, place: usize) -> io::Result<()>
+        requires { place < max_states }
+        ensures written { OnOk result (Appends (W.contents out.old) (W.contents out.new) (text self.now place)) }
+        ensures error { OnErr result (Begins (W.contents out.old) (W.contents out.new) (text self.now place)) };
+}
+
+// For a living state, its line: state 1 stands at the first place.
+impl Shown for Structure<'_> {
+    ghost text = { λ s i. line_at s (i + 1) };
+
+    fn show<W: Write>(&self, out: &mut W, place: usize) -> io::Result<()> {
+        state(out, self, place + 1)
+    }
+}
+
+// A number, after a space.
+struct Number;
+
+impl Shown for Number {
+    ghost text = { λ s i. spaced i };
+
+    fn show<W: Write>(&self, out: &mut W, place: usize) -> io::Result<()> {
+        put(out, place as u64)
+    }
+}
+
+// What is shown of the marked places, ascending.
 #[tactic(auto, using(crate::proofs::Written::marks_written))]
-fn put_marked<W: Write>(out: &mut W, marks: &[u8; ATOMS]) -> io::Result<()>
-    ensures written { OnOk result (Appends (W.contents out.old) (W.contents out.new) (marked marks.now spaced 256)) }
-    ensures error { OnErr result (Begins (W.contents out.old) (W.contents out.new) (marked marks.now spaced 256)) }
+fn show_marked<W: Write, S: Shown, const N: usize>(
+    out: &mut W,
+    marks: &[u8; N],
+    of: &S,
+) -> io::Result<()>
+    requires { N ≤ max_states }
+    ensures written { OnOk result (Appends (W.contents out.old) (W.contents out.new) (marked marks.now (S.text of.now) N)) }
+    ensures error { OnErr result (Begins (W.contents out.old) (W.contents out.new) (marked marks.now (S.text of.now) N)) }
 {
-    for a in 0..ATOMS {
-        if marked(marks, a) {
-            put(out, a as u64)?;
+    for i in 0..N {
+        if marked(marks, i) {
+            of.show(out, i)?;
         }
     }
     Ok(())
