@@ -4,17 +4,13 @@ use mathlib.Core.Path.{◌≡◌, sym, ap, ◌∙◌}
 use mathlib.Core.List.{List}
 use lib.IntN.{ℤ}
 use Rattle.records.specs.declared.State.{State}
-use Rattle.records.specs.Table.{rows, numbers_of}
-use Rattle.records.proofs.Tables.{rows-numbers_of}
+use Rattle.records.specs.Table.{numbers_of}
+use Rattle.records.proofs.Tables.{numbers_of_inj}
 use Rattle.checker.specs.Checked.{Lent, lent}
 use Rattle.host.specs.Called.{Numbered, Into, Judged}
 
 pub single-check : {bs : List ℕ} {budget r₁ r₂ : ℕ} → Numbered bs budget r₁ → Numbered bs budget r₂ → r₁ ≡ r₂
 single-check p q = p.number ∙ sym q.number
-
--- a table is its numbers
-numbers_of_inj : (s t : List State) → numbers_of s ≡ numbers_of t → s ≡ t
-numbers_of_inj s t e = sym (rows-numbers_of s) ∙ ap rows e ∙ rows-numbers_of t
 
 pub single_into : {bs : List ℕ} {budget : ℕ} {o : Lent} {out : List ℕ} {t₁ t₂ : List State} {ws₁ ws₂ : List ℕ} {cs₁ cs₂ : List ℤ} {vs₁ vs₂ wk₁ wk₂ out₁ out₂ : List ℕ} {r₁ r₂ : ℕ}
     → Into bs budget o out (lent (numbers_of t₁) ws₁ cs₁ vs₁ wk₁) out₁ r₁ → Into bs budget o out (lent (numbers_of t₂) ws₂ cs₂ vs₂ wk₂) out₂ r₂

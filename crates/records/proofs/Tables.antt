@@ -5,9 +5,9 @@ use native.Mathlib.Omega.{arith}
 use native.Mathlib.Decide.{ℕ_discrete}
 use mathlib.Core.Path.{◌≡◌, refl, sym, ap, ◌∙◌}
 use mathlib.Core.Bool.{Bool, true, false}
-use mathlib.Core.List.{List, [], ◌∷◌, ◌++◌}
+use mathlib.Core.List.{List, [], ◌∷◌, ◌++◌, append_assoc}
 use lib.Dec.{T, leb}
-use lib.ListN.{length, get_or, set, take, drop, replicate, length-set}
+use lib.ListN.{length, get_or, set, take, drop, replicate, length-set, length-append, length-replicate}
 use lib.Seq.{get_or-set_same, get_or-set_other, take-nil, drop-nil, take_at, take-append-le, length-take-le}
 use mir.Facts.{leb_yes, yes_leb}
 use Rattle.ground.specs.Buffer.{filled}
@@ -36,6 +36,14 @@ filled_next z n xs old buf x h b is =
     is-filled z (n + 1) xs old (set buf n x) (omega arith) (length-set buf n x ∙ long)
     (laid-set z n xs buf x (omega (arith, long)) is front)
     (kept_set z (n + 1) old buf x n (omega arith) (λ i q. rest i (omega arith)))
+
+-- what was filled fills another buffer alike
+pub refilled : {A : Type 0} (z : A) (n : ℕ) (xs old new : List A) → filled z n (filled z n xs old) new ≡ filled z n xs new
+unfolding filled
+refilled {A} z n xs old new =
+    let front = take n (xs ++ replicate n z) in
+    let size : length front ≡ n = length-take-le n (xs ++ replicate n z) (rw (length-append, length-replicate) (omega arith)) in
+    ap (λ (l : List A). l ++ drop n new) (ap (take n) (append_assoc front (drop n old) (replicate n z)) ∙ take_at front (drop n old ++ replicate n z) n size)
 
 -- what stands at a place
 next_row : (i k : ℕ) → 3 * suc i + k ≡ suc (suc (suc (3 * i + k)))
@@ -85,6 +93,10 @@ pub rows-numbers_of : (ss : List State) → rows (numbers_of ss) ≡ ss
 unfolding rows numbers_of
 rows-numbers_of [] = refl
 rows-numbers_of (s ∷ ss) = ap (λ (l : List State). s ∷ l) (rows-numbers_of ss)
+
+-- a table is its numbers
+pub numbers_of_inj : (s t : List State) → numbers_of s ≡ numbers_of t → s ≡ t
+numbers_of_inj s t e = sym (rows-numbers_of s) ∙ ap rows e ∙ rows-numbers_of t
 
 pub numbers_of-rows : (xs : List ℕ) (n : ℕ) → length xs ≡ 3 * n → numbers_of (rows xs) ≡ xs
 unfolding rows numbers_of
