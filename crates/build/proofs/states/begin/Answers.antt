@@ -1,10 +1,9 @@
 use native.Mathlib.Omega.{arith}
 use mathlib.Core.Bool.{false}
-use mathlib.Core.Path.{◌≡◌, refl}
+use mathlib.Core.Path.{refl}
 use Rattle.book.proofs.Accepted.{sound-below, sound-atoms}
 use Rattle.book.specs.Held.{nodes_in}
 use Rattle.signed.specs.Signed.{signed}
-use Rattle.encoding.specs.Shows.{counted, at_start}
 use Rattle.encoding.proofs.Bounds.{asked-small}
 use Rattle.encoding.proofs.Steps.{write-over}
 use Rattle.rules.specs.Does.{Part}
@@ -22,17 +21,12 @@ module _ (c : After-start) where
         is = c.strip-l.ensures.0;
       }
 
-  begun : counted c.start.result ≡ at_start
-  begun = let e = c.start.ensures in λ i. record { states = e.0 i; variables = e.1 i; clauses = e.2 i; over = 0 }
-
 pub returns-in_err-x-clause-does : goal.returns-in_err-x-clause-does
 returns-in_err-x-clause-does c =
-    let s = (goal.at.returns-in_err-x-clause-does c).After-start in
     let x = c.in_err-x.ensures.asks in
     rw (handed c.from_residual.result _ c.from_residual.ensures.0 c.from_residual.ensures.1)
-    (begin_does c.strip-l.result (nodes_in c.args.book.now) c.args.root (begun s) (part s) x (write-over _ _ _ x.next.room (λ q. omega arith)) refl)
+    (begin_does c.strip-l.result (nodes_in c.args.book.now) c.args.root c.start.ensures (part (goal.at.returns-in_err-x-clause-does c).After-start) x (write-over _ _ _ x.next.room (λ q. omega arith)) refl)
 
 pub returns-clause-does : goal.returns-clause-does
 returns-clause-does c =
-    let s = (goal.at.returns-clause-does c).After-start in
-    begin_does c.strip-l.result (nodes_in c.args.book.now) c.args.root (begun s) (part s) c.in_ok-x.ensures.asks c.write.ensures c.one.ensures
+    begin_does c.strip-l.result (nodes_in c.args.book.now) c.args.root c.start.ensures (part (goal.at.returns-clause-does c).After-start) c.in_ok-x.ensures.asks c.write.ensures c.one.ensures
