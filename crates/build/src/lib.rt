@@ -1,6 +1,7 @@
 // Document 01, "The build", over lent buffers: state records, variable words and clauses, filled by one pass over the states.
 #![tactic(auto)]
 
+pub mod numeric;
 mod phases;
 mod states;
 
