@@ -7,7 +7,7 @@ use encoding::Build;
 
 // Whether a buffer of variables has its size, and v is a number of variables that a build can have.
 #[tactic(auto, unfolding(crate::specs::Evaluation::variables_fit))]
-fn variables_fit<T>(v: usize, xs: &[T]) -> bool
+pub(crate) fn variables_fit<T>(v: usize, xs: &[T]) -> bool
     ensures { result ≡ def.variables_fit v xs.now }
 {
     v <= Build::VARIABLES && Build::VARIABLES <= xs.len()
