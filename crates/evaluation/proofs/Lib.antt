@@ -1,3 +1,4 @@
 pub mod Showing
 pub mod Preparing
 pub mod Answering
+pub mod Taken

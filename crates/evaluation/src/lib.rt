@@ -2,6 +2,7 @@
 #![tactic(auto)]
 
 mod nodes;
+pub mod numeric;
 mod rows;
 
 ghost use Rattle.std.specs.Prelude.{◌≡◌};

@@ -151,6 +151,12 @@ take-rows (suc n) (p ∷ []) h = absurd (omega arith)
 take-rows (suc n) (p ∷ r ∷ []) h = absurd (omega arith)
 take-rows (suc n) (p ∷ r ∷ m ∷ xs) h = rw (next-rows n) (ap (λ (l : List ℕ). p ∷ r ∷ m ∷ l) (take-rows n xs (omega arith)))
 
+pub numbers_of_first : (n : ℕ) (xs : List ℕ) (t : List State) → 3 * n ≤ length xs → numbers_of (take n (filled zero_state n (rows xs) t)) ≡ take (3 * n) xs
+unfolding filled
+numbers_of_first n xs t h =
+    let long = length-rows xs n h in
+    rw (take-append-le n (rows xs) (replicate n zero_state) long, take_at (take n (rows xs)) (drop n t) n (length-take-le n (rows xs) long)) (take-rows n xs h)
+
 pub numbers_of_published : (n : ℕ) (xs : List ℕ) (t : List State) → 3 * n ≤ length xs → numbers_of (filled zero_state n (rows xs) t) ≡ filled 0 (3 * n) xs (numbers_of t)
 unfolding filled
 numbers_of_published n xs t h =
