@@ -103,8 +103,11 @@ pub record Evaluating (ns : List table.Node) (s : Structure) (i k : ℕ) (old ne
   pub kept : Kept 0 work_size old new
   pub shows : Shown (lies_in s) ns i s.states_count old → Shown (lies_in s) ns k s.states_count new
 
--- the working space tells the lives and the atoms, and nothing beyond it changed
-pub record Prepared (s : Structure) (old new : List ℕ) : Type 0 where
+-- the working space tells the lives and the atoms of a finite structure with the states 1 to n, and nothing beyond it changed
+pub record Begun (F : Finite) (n : ℕ) (old new : List ℕ) : Type 0 where
   pub long : length new ≡ length old
   pub kept : Kept 0 work_size old new
-  pub shows : (ns : List table.Node) → Shown (lies_in s) ns 0 s.states_count new
+  pub shows : (ns : List table.Node) → Shown F ns 0 n new
+
+abbrev pub Prepared : Structure → List ℕ → List ℕ → Type 0
+Prepared s old new = Begun (lies_in s) s.states_count old new
