@@ -7,6 +7,9 @@ use lib.Dec.{eqb}
 use Rattle.meaning.specs.Answers.{Answer}
 use Rattle.checker.specs.Checked.{Lent, ended_by, told}
 use Rattle.checker.specs.Meant.{Promised}
+use Rattle.checker.specs.Lending.{held}
+use Rattle.checker.specs.declared.Lent as lending
+use Rattle.records.proofs.Tables.{numbers_of_inj}
 use Rattle.std.specs.Prelude.{Result, Ok, Err}
 use Rattle.book.specs.declared.refusal.Refusal.TheVariants.{Short, Ranges, Extent, Node}
 use Rattle.book.specs.declared.refusal.NoAnswer.{NoAnswer}
@@ -49,3 +52,10 @@ told_inj r s e = sym (untold-told r) ∙ ap untold e ∙ untold-told s
 
 pub single : {bs : List ℕ} {budget : ℕ} {o o₁ o₂ : Lent} {r₁ r₂ : Result code.Answer NoAnswer} → Promised bs budget o o₁ r₁ → Promised bs budget o o₂ r₂ → (r₁ ≡ r₂) × (o₁ ≡ o₂)
 single {r₁} {r₂} p q = (told_inj r₁ r₂ (p.answer ∙ sym q.answer), p.lent ∙ sym q.lent)
+
+-- the same of everything that is lent: a table is its numbers
+pub single_lent : {bs : List ℕ} {budget : ℕ} {o : Lent} {r₁ r₂ : Result code.Answer NoAnswer} (b₁ b₂ : lending.Lent) → Promised bs budget o (held b₁) r₁ → Promised bs budget o (held b₂) r₂
+    → (r₁ ≡ r₂) × (b₁.states.now ≡ b₂.states.now) × (b₁.words.now ≡ b₂.words.now) × (b₁.clauses.now ≡ b₂.clauses.now) × (b₁.values.now ≡ b₂.values.now) × (b₁.work.now ≡ b₂.work.now)
+single_lent b₁ b₂ p q =
+    let same = (single p q).1 in
+    ((single p q).0, numbers_of_inj b₁.states.now b₂.states.now (ap (λ (o : Lent). o.states) same), ap (λ (o : Lent). o.words) same, ap (λ (o : Lent). o.clauses) same, ap (λ (o : Lent). o.values) same, ap (λ (o : Lent). o.work) same)
