@@ -1,4 +1,4 @@
--- The promise of `check` admits a single outcome: 01's numbers tell the answer. Assumes nothing.
+-- The promise of `check`, over records or over numbers, admits a single outcome: 01's numbers tell the answer. Assumes nothing.
 use Prim.Native.Nat.{ℕ}
 use mathlib.Core.Path.{◌≡◌, refl, sym, ap, ◌∙◌}
 use mathlib.Core.Bool.{cond}
@@ -50,10 +50,11 @@ untold-told (Err Oversized) = refl
 pub told_inj : (r s : Result code.Answer NoAnswer) → told r ≡ told s → r ≡ s
 told_inj r s e = sym (untold-told r) ∙ ap untold e ∙ untold-told s
 
+-- of the lists that the buffers hold: over numbers these are what is lent
 pub single : {bs : List ℕ} {budget : ℕ} {o o₁ o₂ : Lent} {r₁ r₂ : Result code.Answer NoAnswer} → Promised bs budget o o₁ r₁ → Promised bs budget o o₂ r₂ → (r₁ ≡ r₂) × (o₁ ≡ o₂)
 single {r₁} {r₂} p q = (told_inj r₁ r₂ (p.answer ∙ sym q.answer), p.lent ∙ sym q.lent)
 
--- the same of everything that is lent: a table is its numbers
+-- over records the same of everything that is lent, as a table is its numbers
 pub single_lent : {bs : List ℕ} {budget : ℕ} {o : Lent} {r₁ r₂ : Result code.Answer NoAnswer} (b₁ b₂ : lending.Lent) → Promised bs budget o (held b₁) r₁ → Promised bs budget o (held b₂) r₂
     → (r₁ ≡ r₂) × (b₁.states.now ≡ b₂.states.now) × (b₁.words.now ≡ b₂.words.now) × (b₁.clauses.now ≡ b₂.clauses.now) × (b₁.values.now ≡ b₂.values.now) × (b₁.work.now ≡ b₂.work.now)
 single_lent b₁ b₂ p q =

@@ -1,5 +1,6 @@
--- What the functions of the check promise one another: a build searched. Assumes nothing.
-use Rattle.std.specs.Prelude.{ℕ, ◌*◌, ◌≤◌, ◌≡◌, cond, List, ◌++◌, ℤ, length, take, drop, replicate}
+-- What the functions of the check promise one another: a build searched, a table of numbers filled. Assumes nothing.
+use Rattle.std.specs.Prelude.{ℕ, ◌*◌, ◌≤◌, ◌≡◌, ◌&&◌, cond, List, leb, ◌++◌, ℤ, length, take, drop, replicate}
+use Rattle.encoding.specs.Limits.{max_states}
 use Rattle.encoding.specs.declared.counts.Build.{Build}
 use Rattle.clauses.specs.Clause.{triples}
 use Rattle.search.specs.Search.{Run, run, nodes, finishes, left}
@@ -32,3 +33,7 @@ pub record Searchable (b : Build) (cs : List ℤ) (vs wk : List ℕ) : Type 0 wh
   pub clauses : 3 * b.clauses ≤ length cs
   pub values : b.variables ≤ length vs
   pub work : space b ≤ length wk
+
+-- how many records an answer fills: with 10 to 14 a lent table is "untouched"
+unfoldable pub shown_of : ℕ → ℕ
+shown_of n = cond (leb 10 n && leb n 14) 0 max_states

@@ -2,6 +2,7 @@
 #![tactic(auto)]
 
 mod numbers;
+pub mod numeric;
 
 ghost use Rattle.std.specs.Prelude.{◌≡◌, ◌<◌, true};
 ghost use Rattle.book.specs.Held.{nodes_in};
