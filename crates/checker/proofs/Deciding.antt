@@ -14,7 +14,9 @@ use Rattle.branching.specs.Answered.{Answered}
 use Rattle.branching.specs.declared.Outcome.{Outcome}
 use Rattle.branching.specs.declared.Outcome.TheVariants as o
 use Rattle.meaning.specs.Answers.{verdict}
-use Rattle.checker.specs.Checked.{ended, ended_by}
+use Rattle.std.specs.Prelude.{Ok}
+use Rattle.checker.specs.Checked.{ended, ended_by, told}
+use Rattle.checker.specs.declared.Answer as code
 use Rattle.checker.specs.Steps.{run_of, decided, space, Decided, Searchable}
 
 told-answer : (b : Build) (budget : ℕ) (R : Run) → ended_by b (search.answer budget R) ≡ decided budget b R
@@ -38,10 +40,11 @@ module _ {b : Build} {budget : ℕ} {cs : List ℤ} {vs wk vs₁ wk₁ : List �
   run_is : run (length (take b.variables vs)) (triples (take (3 * b.clauses) cs)) ≡ run_of b cs
   run_is = ap (λ (v : ℕ). run v (triples (take (3 * b.clauses) cs))) long
 
-  pub search_decided : Decided b budget cs vs wk (vs₁ ++ drop b.variables vs) (wk₁ ++ drop (space b) wk) (record { totals = b; outcome = x })
-  search_decided =
+  -- of whatever tells what came of the search
+  pub search_decided : {r : code.Answer} → told (Ok r) ≡ ended_by b x → Decided b budget cs vs wk (vs₁ ++ drop b.variables vs) (wk₁ ++ drop (space b) wk) r
+  search_decided tells =
       record {
-        answer = ap (ended_by b) (found.gives ∙ ap (search.answer budget) run_is) ∙ told-answer b budget (run_of b cs);
+        answer = tells ∙ ap (ended_by b) (found.gives ∙ ap (search.answer budget) run_is) ∙ told-answer b budget (run_of b cs);
         values = ap (λ (l : List ℕ). l ++ drop b.variables vs) (found.leaves ∙ ap (λ (v : ℕ). left budget v (run v (triples (take (3 * b.clauses) cs)))) long);
         work = ap (λ (l : List ℕ). l ++ drop (space b) wk) (found.clears ∙ ap (λ (k : ℕ). replicate k 0) (length-take-le (space b) wk ready.work));
       }

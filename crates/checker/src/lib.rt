@@ -4,11 +4,11 @@
 mod numbers;
 pub mod numeric;
 
-ghost use Rattle.std.specs.Prelude.{◌≡◌, ◌<◌, true};
+ghost use Rattle.std.specs.Prelude.{◌≡◌, ◌<◌, true, Ok};
 ghost use Rattle.book.specs.Held.{nodes_in};
 ghost use Rattle.encoding.specs.Build.{built};
 ghost use Rattle.checker.specs.Checked as def;
-ghost use Rattle.checker.specs.Checked.{leaving, finished, told};
+ghost use Rattle.checker.specs.Checked.{leaving, finished, told, ended_by};
 ghost use Rattle.checker.specs.Lending.{held, owned, own, SameLoans};
 ghost use Rattle.checker.specs.Meant.{Promised};
 ghost use Rattle.checker.specs.Steps.{Searchable, Decided};
@@ -170,5 +170,12 @@ fn search(
         &mut work[..space],
         budget,
     );
+    answered(totals, outcome)
+}
+
+// What came of a search, as it is handed on with the totals of its build.
+fn answered(totals: Build, outcome: Outcome) -> Answer
+    ensures { told (Ok result) ≡ ended_by totals outcome }
+{
     Answer { totals, outcome }
 }
