@@ -1,6 +1,6 @@
 // The clauses of each literal: its places among the clause numbers, linked from the latest down. In a clause that has a literal more than once only the first
 // of its places is linked, so that no clause is met twice on the way.
-ghost use Rattle.std.specs.Prelude.{◌≡◌, ◌<◌, length};
+ghost use Rattle.std.specs.Prelude.{◌≡◌, ◌+◌, ◌<◌, length};
 ghost use Rattle.propagation.specs.Links as def;
 ghost use Rattle.propagation.specs.Links.{Linkable, Linked};
 
@@ -31,6 +31,14 @@ fn joined(last: u16, p: u16) -> u16
     if earlier / 3 == later / 3 { last } else { p }
 }
 
+// How a link says the i-th clause number: by its place. Places count from 1, as 0 is none.
+fn link_to(i: usize) -> u16
+    requires { i < 65535 }
+    ensures { result ≡ i + 1 }
+{
+    (i + 1) as u16
+}
+
 // Links the places of each literal. One pass over the literals, and one over the clause numbers.
 pub fn link(clauses: &[i16], variables: usize, links: &mut [u16])
     requires { Linkable clauses.now variables links.old }
@@ -41,6 +49,6 @@ pub fn link(clauses: &[i16], variables: usize, links: &mut [u16])
         let x = head_of(*l);
         let last = links[x];
         links[2 * variables + 1 + i] = last;
-        links[x] = joined(last, (i + 1) as u16);
+        links[x] = joined(last, link_to(i));
     }
 }

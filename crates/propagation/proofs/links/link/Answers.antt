@@ -69,7 +69,7 @@ module _ (J : After-joined) where
   goes_on : (L' : List ℕ) → L' ≡ set (set (L (goal.at.After-joined J).In-loop-i) (2 * v (goal.at.After-joined J).After-clear + 1 + i (goal.at.After-joined J).In-loop-i) last) (x (goal.at.After-joined J).After-head_of-x) J.joined.result
       → Way (cl (goal.at.After-joined J).In-loop-i) (v (goal.at.After-joined J).After-clear) J.clear.new.s L' (i (goal.at.After-joined J).In-loop-i + 1)
   goes_on L' e =
-      let f = e ∙ ap (set (set (L (goal.at.After-joined J).In-loop-i) (2 * v (goal.at.After-joined J).After-clear + 1 + i (goal.at.After-joined J).In-loop-i) last) (x (goal.at.After-joined J).After-head_of-x)) J.joined.ensures in
+      let f = e ∙ ap (set (set (L (goal.at.After-joined J).In-loop-i) (2 * v (goal.at.After-joined J).After-clear + 1 + i (goal.at.After-joined J).In-loop-i) last) (x (goal.at.After-joined J).After-head_of-x)) (J.joined.ensures ∙ ap (joined last) J.link_to.ensures) in
       record {
         low = omega (arith, in_clauses (goal.at.After-joined J).In-loop-i);
         long = ap length e ∙ simp length-set J.loop-i.invariant.long;
@@ -118,11 +118,8 @@ offset_bounds-links-variables c = omega (arith, in_memory (goal.at.offset_bounds
 pub bounds-links-variables : goal.bounds-links-variables
 bounds-links-variables c = omega (arith, in-links (goal.at.bounds-links-variables c).In-loop-i)
 
-pub overflow_add-i : goal.overflow_add-i
-overflow_add-i c = omega (arith, in_memory (goal.at.overflow_add-i c).In-loop-i, memory (goal.at.overflow_add-i c).After-head_of-x)
-
-pub overflow_cast-i : goal.overflow_cast-i
-overflow_cast-i c = omega (arith, in_clauses (goal.at.overflow_cast-i c).In-loop-i, c.requires.1.long, c.requires.1.few)
+pub link_to-requires : goal.link_to-requires
+link_to-requires c = omega (arith, in_clauses (goal.at.link_to-requires c).In-loop-i, c.requires.1.long, c.requires.1.few)
 
 pub offset_bounds-links-x-in-loop-i : goal.offset_bounds-links-x-in-loop-i
 offset_bounds-links-x-in-loop-i c = omega (arith, within (goal.at.offset_bounds-links-x-in-loop-i c).After-head_of-x, in_memory (goal.at.offset_bounds-links-x-in-loop-i c).In-loop-i, memory (goal.at.offset_bounds-links-x-in-loop-i c).After-head_of-x)
