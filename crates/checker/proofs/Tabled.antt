@@ -44,9 +44,9 @@ shown-judged budget B = go (finishes budget (searched B)) (searched B)
     go true (unsat n) = refl
     go false R = refl
 
-pub shown-most : (n : ℕ) → shown_of n ≤ max_states
+pub shown_most : (n : ℕ) → shown_of n ≤ max_states
 unfolding shown_of
-shown-most n = go (leb 10 n && leb n 14)
+shown_most n = go (leb 10 n && leb n 14)
   where
     go : (b : Bool) → cond b 0 max_states ≤ max_states
     go true = omega arith

@@ -26,6 +26,7 @@ impl<'a> Structure<'a> {
     }
 
     // The same of the words.
+    #[tactic(auto, unfolding(crate::specs::Evaluation::variables_fit))]
     pub fn words_fit(&self) -> bool
         ensures { result ≡ def.variables_fit self.now.variables_count self.now.words.now }
     {

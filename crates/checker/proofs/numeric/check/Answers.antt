@@ -1,14 +1,14 @@
 use native.Mathlib.Omega.{arith}
 use borrow.Author.Rules.{rules}
 use Rattle.checker.specs.Checked.{told}
-use Rattle.checker.proofs.Tabled.{shown-most, promised_few, promised_over}
+use Rattle.checker.proofs.Tabled.{shown_most, promised_few, promised_over}
 use Rattle.checker.proofs.numeric.check.Goals as goal
 
 pub returns-then-states : goal.returns-then-states
 returns-then-states c = let a = c.args in promised_few a.bytes.now a.budget a.states.now a.words.now a.clauses.now a.values.now a.work.now (omega (arith, c.if-states.true))
 
 pub gather-requires : goal.gather-requires
-gather-requires c = let most = shown-most (told c.check-answer.result).number in (omega (arith, most, c.shown.ensures), omega (arith, most, c.shown.ensures, c.if-states.false))
+gather-requires c = let most = shown_most (told c.check-answer.result).number in (omega (arith, most, c.shown.ensures), omega (arith, most, c.shown.ensures, c.if-states.false))
 
 pub returns : goal.returns
 returns c =
