@@ -8,7 +8,7 @@ ghost use Rattle.build.specs.Filled.{Filled};
 use crate::Oversized;
 use book::Book;
 use encoding::Build;
-use records::{State, UNUSED, gather};
+use records::{UNUSED, gather};
 
 // Builds the clauses of node `root` as the crate's `fill` does, into a table of its own, whose records become the numbers.
 pub fn fill(

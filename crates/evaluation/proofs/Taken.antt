@@ -53,7 +53,7 @@ module _ (st : List ℕ) (m : ℕ) (most : m ≡ min (length st / 3) max_states)
     lies_taken : all_fit bs (take (3 * m) st) n ws v vs work ≡ true → records_in n (take (3 * m) st) ≡ records_in n st
     lies_taken e = records_taken n m st (omega (arith, (all_in bs (take (3 * m) st) n ws v vs work e).2, length_taken))
 
-    judged_taken : judged bs (take (3 * m) st) n ws v vs work ≡ judged bs st n ws v vs work
+    pub judged_taken : judged bs (take (3 * m) st) n ws v vs work ≡ judged bs st n ws v vs work
     unfolding judged
     judged_taken = go (all_fit bs (take (3 * m) st) n ws v vs work) refl
       where
@@ -61,7 +61,7 @@ module _ (st : List ℕ) (m : ℕ) (most : m ≡ min (length st / 3) max_states)
         go true e = rw (sym fit_taken ∙ e, e, lies_taken e) refl
         go false e = rw (sym fit_taken ∙ e, e) refl
 
-    left_taken : left bs (take (3 * m) st) n ws v vs work ≡ left bs st n ws v vs work
+    pub left_taken : left bs (take (3 * m) st) n ws v vs work ≡ left bs st n ws v vs work
     unfolding left
     left_taken = rw fit_taken refl
 

@@ -1,70 +1,44 @@
--- A table is judged by its first 512 records: of a shorter one they are all its records, and 10 is given alike; of a longer one an evaluation reads no
--- more. Assumes nothing.
-use Prim.Native.Nat.{ℕ, zero, suc, min, ◌*◌, ◌≤◌, ◌<◌}
+-- A table is judged by its first 512 records, as its numbers are: of a shorter one they are all its records, and 10 is given alike; of a longer one an
+-- evaluation reads no more. Assumes nothing.
+use Prim.Native.Nat.{ℕ, min, ◌*◌, ◌/◌, ◌≤◌}
 use native.Mathlib.Omega.{arith}
-use native.Mathlib.Decide.{dec_lt}
-use mathlib.Core.Path.{◌≡◌, refl, sym, ap, ◌∙◌}
-use mathlib.Core.Bool.{Bool, true, false}
-use mathlib.Core.List.{List, [], ◌∷◌}
-use borrow.Author.Tests.{lt-leb, le-leb}
-use lib.Dec.{leb}
-use lib.ListN.{length, take}
-use lib.Seq.{length-take-le}
-use Rattle.encoding.specs.Build.{Record}
+use mathlib.Core.Path.{◌≡◌, sym, ap, ◌∙◌}
+use mathlib.Core.List.{List}
+use lib.ListN.{length, take, drop, replicate}
+use lib.Seq.{take_at, take-append-le, length-take-le}
+use Rattle.ground.specs.Buffer.{filled}
 use Rattle.encoding.specs.Limits.{max_states}
-use Rattle.structure.specs.Evaluation.{records_in, states_fit, all_fit, judged, left}
-use Rattle.structure.proofs.Sizes.{all_in}
+use Rattle.structure.specs.Evaluation.{Judgement, judged, left}
+use Rattle.evaluation.proofs.Taken.{judged_taken, left_taken}
 use Rattle.records.specs.declared.State.{State}
-use Rattle.records.specs.Table.{numbers_of}
-use Rattle.records.proofs.Tables.{length-numbers_of}
+use Rattle.records.specs.Table.{zero_state, numbers_of}
+use Rattle.records.proofs.Tables.{length-numbers_of, rows-numbers_of, numbers_of_first}
 use Rattle.host.specs.Called.{Judged}
 
 -- how many records are read of k
 pub most_read : (k : ℕ) → (min max_states k ≤ k) × (3 * min max_states k ≤ 3 * max_states)
 most_read k = (omega arith, omega arith)
 
-records_taken : (n m : ℕ) (t : List State) → n ≤ m → records_in n (numbers_of (take m t)) ≡ records_in n (numbers_of t)
-unfolding records_in numbers_of
-records_taken zero m t h = refl
-records_taken (suc n) zero t h = absurd (omega arith)
-records_taken (suc n) (suc m) [] h = refl
-records_taken (suc n) (suc m) (s ∷ t) h = ap (λ (l : List Record). record { parent = s.parent; relation = s.relation; maker = s.maker } ∷ l) (records_taken n m t (omega arith))
-
 module _ (t : List State) where
   abbrev m : ℕ
   m = min max_states (length t)
 
-  length_taken : length (numbers_of (take m t)) ≡ 3 * m
-  length_taken = length-numbers_of (take m t) ∙ ap (λ (k : ℕ). 3 * k) (length-take-le m t (most_read (length t)).0)
+  most : m ≡ min (length (numbers_of t) / 3) max_states
+  most = omega (arith, length-numbers_of t)
 
-  -- the size test is the same
-  long_taken : leb (3 * max_states) (length (numbers_of (take m t))) ≡ leb (3 * max_states) (length (numbers_of t))
-  long_taken = rw (length_taken, length-numbers_of t) (go (dec_lt (length t) max_states))
-    where
-      go : Dec (length t < max_states) → leb (3 * max_states) (3 * m) ≡ leb (3 * max_states) (3 * length t)
-      go (yes p) = lt-leb (3 * max_states) (3 * m) (omega arith) ∙ sym (lt-leb (3 * max_states) (3 * length t) (omega arith))
-      go (no p) = le-leb (3 * max_states) (3 * m) (omega arith) ∙ sym (le-leb (3 * max_states) (3 * length t) (omega arith))
+  -- the numbers of the records that are read
+  first : take (3 * m) (numbers_of t) ≡ numbers_of (take m t)
+  unfolding filled
+  first =
+      let few = (most_read (length t)).0 in
+      sym (numbers_of_first m (numbers_of t) t (omega (arith, few, length-numbers_of t)))
+      ∙ ap numbers_of (rw (rows-numbers_of t, take-append-le m t (replicate m zero_state) few) (take_at (take m t) (drop m t) m (length-take-le m t few)))
 
   module _ (bs : List ℕ) (n : ℕ) (ws : List ℕ) (v : ℕ) (vs work : List ℕ) where
-    fit_taken : all_fit bs (numbers_of (take m t)) n ws v vs work ≡ all_fit bs (numbers_of t) n ws v vs work
-    unfolding all_fit states_fit
-    fit_taken = rw long_taken refl
-
-    lies_taken : all_fit bs (numbers_of (take m t)) n ws v vs work ≡ true → records_in n (numbers_of (take m t)) ≡ records_in n (numbers_of t)
-    lies_taken e = records_taken n m t (omega (arith, (all_in bs (numbers_of (take m t)) n ws v vs work e).2, length_taken))
-
-    judged_taken : judged bs (numbers_of (take m t)) n ws v vs work ≡ judged bs (numbers_of t) n ws v vs work
-    unfolding judged
-    judged_taken = go (all_fit bs (numbers_of (take m t)) n ws v vs work) refl
-      where
-        go : (b : Bool) → all_fit bs (numbers_of (take m t)) n ws v vs work ≡ b → judged bs (numbers_of (take m t)) n ws v vs work ≡ judged bs (numbers_of t) n ws v vs work
-        go true e = rw (sym fit_taken ∙ e, e, lies_taken e) refl
-        go false e = rw (sym fit_taken ∙ e, e) refl
-
-    left_taken : left bs (numbers_of (take m t)) n ws v vs work ≡ left bs (numbers_of t) n ws v vs work
-    unfolding left
-    left_taken = rw fit_taken refl
-
     -- the promise, of an evaluation over the first records
     pub judges : (work' : List ℕ) (r : ℕ) → Judged bs (numbers_of (take m t)) n ws v vs work work' r → Judged bs (numbers_of t) n ws v vs work work' r
-    judges work' r j = record { number = rw judged_taken at j.number; leaves = rw left_taken at j.leaves }
+    judges work' r j =
+        record {
+          number = j.number ∙ ap (λ (st : List ℕ). (judged bs st n ws v vs work).number) (sym first) ∙ ap (λ (x : Judgement). x.number) (judged_taken (numbers_of t) m most bs n ws v vs work);
+          leaves = j.leaves ∙ ap (λ (st : List ℕ). left bs st n ws v vs work) (sym first) ∙ left_taken (numbers_of t) m most bs n ws v vs work;
+        }
