@@ -24,7 +24,7 @@ use Rattle.structure.proofs.Sizes.{all_in}
 next-record : (n : ℕ) → 3 * suc n ≡ suc (suc (suc (3 * n)))
 next-record n = omega arith
 
-records_taken : (n m : ℕ) (st : List ℕ) → n ≤ m → records_in n (take (3 * m) st) ≡ records_in n st
+pub records_taken : (n m : ℕ) (st : List ℕ) → n ≤ m → records_in n (take (3 * m) st) ≡ records_in n st
 unfolding records_in
 records_taken zero m st h = refl
 records_taken (suc n) zero st h = absurd (omega arith)
@@ -34,11 +34,11 @@ records_taken (suc n) (suc m) (p ∷ r ∷ []) h = rw (next-record m) refl
 records_taken (suc n) (suc m) (p ∷ r ∷ k ∷ st) h = rw (next-record m) (ap (λ (l : List Record). record { parent = p; relation = r; maker = k } ∷ l) (records_taken n m st (omega arith)))
 
 module _ (st : List ℕ) (m : ℕ) (most : m ≡ min (length st / 3) max_states) where
-  length_taken : length (take (3 * m) st) ≡ 3 * m
+  pub length_taken : length (take (3 * m) st) ≡ 3 * m
   length_taken = length-take-le (3 * m) st (omega arith)
 
   -- the size test is the same
-  long_taken : leb (3 * max_states) (length (take (3 * m) st)) ≡ leb (3 * max_states) (length st)
+  pub long_taken : leb (3 * max_states) (length (take (3 * m) st)) ≡ leb (3 * max_states) (length st)
   long_taken = rw length_taken (go (dec_lt (length st) (3 * max_states)))
     where
       go : Dec (length st < 3 * max_states) → leb (3 * max_states) (3 * m) ≡ leb (3 * max_states) (length st)
@@ -46,7 +46,7 @@ module _ (st : List ℕ) (m : ℕ) (most : m ≡ min (length st / 3) max_states)
       go (no p) = le-leb (3 * max_states) (3 * m) (omega arith) ∙ sym (le-leb (3 * max_states) (length st) (omega arith))
 
   module _ (bs : List ℕ) (n : ℕ) (ws : List ℕ) (v : ℕ) (vs work : List ℕ) where
-    fit_taken : all_fit bs (take (3 * m) st) n ws v vs work ≡ all_fit bs st n ws v vs work
+    pub fit_taken : all_fit bs (take (3 * m) st) n ws v vs work ≡ all_fit bs st n ws v vs work
     unfolding all_fit states_fit
     fit_taken = rw long_taken refl
 

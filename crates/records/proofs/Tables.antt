@@ -118,7 +118,7 @@ row_next n ss old buf s h b is =
     rw (e, f) (filled_next 0 (3 * n + 1 + 1) (numbers_of ss) old (set (set buf (3 * n) s.parent) (3 * n + 1) s.relation) s.maker (omega arith) two maker)
 
 -- Where the first n records have been gathered, the first 3 × n numbers are theirs.
-take-numbers_of : (n : ℕ) (ss : List State) → take (3 * n) (numbers_of ss) ≡ numbers_of (take n ss)
+pub take-numbers_of : (n : ℕ) (ss : List State) → take (3 * n) (numbers_of ss) ≡ numbers_of (take n ss)
 unfolding numbers_of
 take-numbers_of zero ss = refl
 take-numbers_of (suc n) [] = take-nil (3 * suc n)
